@@ -1,0 +1,3 @@
+pub mod Along
+pub mod Admits
+pub mod Fronts

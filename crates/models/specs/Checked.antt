@@ -1,0 +1,22 @@
+-- What a checked model stands for. Assumes nothing.
+use mathlib.Core.List.{List}
+use denote.Ref.{now}
+use Rattle.std.specs.declared.result.Result.{Result}
+use Rattle.std.specs.declared.result.Result.the-variants.{Ok, Err}
+use Rattle.models.specs.declared.part.Part.{Part}
+use Rattle.models.specs.declared.model.Model.{Model}
+use Rattle.models.specs.declared.refusal.Refusal.{Refusal}
+use Rattle.models.specs.Refusals.{Notice, notice}
+use Rattle.models.specs.Sheets.{tree}
+use Rattle.models.specs.Trees.{Tree}
+
+abbrev pub partsOf : Model → List Part
+partsOf m = now (m .parts)
+
+abbrev pub treeOf : Model → Tree
+treeOf m = tree (partsOf m)
+
+-- what an answer tells, with the tree where it is Ok
+abbrev pub told : Result (Unit {0}) Refusal → Tree → Result Tree Notice
+told (Ok u) t = Ok t
+told (Err refusal) t = Err (notice refusal)

@@ -1,0 +1,9 @@
+pub mod Messages
+pub mod Trees
+pub mod Parts
+pub mod Refusals
+pub mod Stacks
+pub mod Sheets
+pub mod Told
+pub mod Checked
+pub mod Checking

@@ -1,0 +1,8 @@
+//! Message models: parts, checked models, and what is worked up from them.
+pub mod check;
+pub mod model;
+pub mod part;
+pub mod refusal;
+pub mod stack;
+pub mod summary;
+pub mod work;

@@ -1,0 +1,17 @@
+//! A stack over a lent slice, for values of any type.
+
+ghost use mathlib.Core.Path.{_≡_};
+ghost use mathlib.Core.List.{[]};
+ghost use Prim.Native.Nat.{_≤_};
+ghost use lib.ListN.{length};
+ghost use denote.Ref.{now as held};
+
+pub mod calls;
+
+/// The first `len` places of the slice hold what waits, the last pushed last.
+#[derive(Drop)]
+pub struct Stack<'a, E> {
+    pub(crate) items: &'a mut [E],
+    pub(crate) len: usize,
+    ghost within: { len ≤ length (held items) },
+}
