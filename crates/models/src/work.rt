@@ -4,10 +4,12 @@ ghost use mathlib.Core.Path.{_≡_};
 ghost use mathlib.Core.List.{List, [], _∷_};
 ghost use Prim.Native.Nat.{ℕ, _+_, _<_, _≤_};
 ghost use Rattle.std.specs.declared.option.Option.the-variants.{Some};
+ghost use Rattle.models.specs.Checked.{treeOf};
 ghost use Rattle.models.specs.Sheets.{shape, join};
 ghost use Rattle.models.specs.Stacks.{waiting, room};
 ghost use Rattle.models.specs.Told.{Told, AllFormed};
 ghost use Rattle.models.specs.Trees.{Tree};
+use crate::model::Model;
 use crate::part::Form;
 use crate::stack::Stack;
 use crate::summary::Summary;
@@ -47,4 +49,26 @@ pub(crate) fn apply<S: Summary>(summary: &S, form: Form, stack: &mut Stack<'_, S
         }
     };
     let _ = stack.push(made);
+}
+
+/// What a summary tells of a model. The working array is scratch: it comes
+/// back with whatever was left in it.
+pub fn work_up<S: Summary>(
+    summary: &S,
+    model: &Model<'_>,
+    work: &mut [S::Value; 256],
+) -> S::Value
+    ensures { λ r. ⌜ means (now (summary .entry)) (treeOf (now (model .entry))) r ⌝ }
+{
+    let mut stack = Stack::new(work);
+    for part in model.parts() {
+        let Some(form) = part.form() else {
+            unreachable()
+        };
+        apply(summary, form, &mut stack);
+    }
+    let Some(value) = stack.pop() else {
+        unreachable()
+    };
+    value
 }
