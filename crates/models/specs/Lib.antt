@@ -7,3 +7,5 @@ pub mod Sheets
 pub mod Told
 pub mod Checked
 pub mod Checking
+pub mod Empties
+pub mod Sets

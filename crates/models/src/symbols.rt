@@ -1,0 +1,96 @@
+//! Sets of symbols, and the summary of the symbols that messages have.
+
+ghost use mathlib.Core.Path.{_≡_};
+ghost use mathlib.Core.Bool.{cond};
+ghost use Prim.Native.Nat.{_^_};
+ghost use lib.Bits.{bitOr};
+ghost use lib.Dec.{leb};
+ghost use Rattle.std.specs.Orderings.{Decides};
+ghost use Rattle.models.specs.Checked.{treeOf};
+ghost use Rattle.models.specs.Sets.{In, SymbolsAre};
+use crate::model::Model;
+use crate::summary::Summary;
+use crate::work::work_up;
+
+/// A set of symbols: the bit worth 2^s stands for symbol s. A symbol above 63
+/// belongs to no set.
+#[derive(Clone, Copy)]
+pub struct SymbolSet {
+    pub bits: u64,
+}
+
+impl SymbolSet {
+    pub const EMPTY: SymbolSet = SymbolSet { bits: 0 };
+
+    /// The set of one symbol, empty where that is above 63.
+    pub fn of(symbol: u32) -> SymbolSet
+        ensures { λ r. ⌜ r .bits ≡ cond (leb symbol 63) (2 ^ symbol) 0 ⌝ }
+    {
+        if symbol <= 63 {
+            SymbolSet { bits: 1 << symbol }
+        } else {
+            SymbolSet::EMPTY
+        }
+    }
+
+    pub fn has(&self, symbol: u32) -> bool
+        ensures { λ r. ⌜ Decides r (In (now (self .entry) .bits) symbol) ⌝ }
+    {
+        symbol <= 63 && (self.bits >> symbol) & 1 == 1
+    }
+
+    /// The symbols of either.
+    pub fn union(&self, other: SymbolSet) -> SymbolSet
+        ensures { λ r. ⌜ r .bits ≡ bitOr (now (self .entry) .bits) (other .bits) ⌝ }
+    {
+        SymbolSet {
+            bits: self.bits | other.bits,
+        }
+    }
+}
+
+/// The symbols that messages have.
+#[derive(Clone, Copy)]
+pub struct Symbols {}
+
+pub impl Summary for Symbols as SymbolsSummary {
+    type Value = SymbolSet;
+
+    ghost means = { λ _ t v. SymbolsAre t (v .bits) };
+
+    fn empty(&self) -> SymbolSet {
+        SymbolSet::EMPTY
+    }
+
+    fn symbol(&self, symbol: u32) -> SymbolSet {
+        SymbolSet::of(symbol)
+    }
+
+    fn choice(&self, left: SymbolSet, right: SymbolSet) -> SymbolSet {
+        left.union(right)
+    }
+
+    fn sequence(&self, left: SymbolSet, right: SymbolSet) -> SymbolSet {
+        left.union(right)
+    }
+
+    fn interleave(&self, left: SymbolSet, right: SymbolSet) -> SymbolSet {
+        left.union(right)
+    }
+
+    fn count(&self, of: SymbolSet, _low: u32, _high: u32) -> SymbolSet {
+        of
+    }
+
+    fn nonempty(&self, of: SymbolSet) -> SymbolSet {
+        of
+    }
+}
+
+/// The symbols of the model: those that some message of it has.
+pub fn symbols_of(model: &Model<'_>) -> SymbolSet
+    ensures { λ r. ⌜ SymbolsAre (treeOf (now (model .entry))) (r .bits) ⌝ }
+{
+    let mut work = [SymbolSet::EMPTY; 256];
+    work_up(&Symbols {}, model, &mut work)
+}
