@@ -144,7 +144,7 @@ joined-made None holds us e = absurd (let z : _≡_ {A = ℕ} 0 1 = cc in omega 
 joined-made (Some vs) true us e = (cc, refl)
 joined-made (Some vs) false us e = absurd (let z : _≡_ {A = ℕ} 0 1 = cc in omega arith)
 
-stepped : (o : Option Form) (fit : Bool) (ts us : List Tree) → stepBy o fit ts ≡ Ok us
+pub stepped : (o : Option Form) (fit : Bool) (ts us : List Tree) → stepBy o fit ts ≡ Ok us
     → (f : Form) × (o ≡ Some f) × (fit ≡ true) × (join (shape f) ts ≡ Some us) × (symbolTaken f ts ≡ true)
 stepped None fit ts us e = absurd (let z : _≡_ {A = ℕ} 0 1 = cc in omega arith)
 stepped (Some f) true ts us e = let m = joined-made (join (shape f) ts) (symbolTaken f ts) us e in (f, refl, refl, m .0, m .1)

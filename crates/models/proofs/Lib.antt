@@ -6,3 +6,4 @@ pub mod Fronts
 pub mod Inhabited
 pub mod Occurrences
 pub mod SymbolSets
+pub mod Written

@@ -1,5 +1,5 @@
 -- What a checked model stands for. Assumes nothing.
-use mathlib.Core.List.{List}
+use mathlib.Core.List.{List, [], _∷_}
 use denote.Ref.{now}
 use Rattle.std.specs.declared.result.Result.{Result}
 use Rattle.std.specs.declared.result.Result.the-variants.{Ok, Err}
@@ -20,3 +20,8 @@ treeOf m = tree (partsOf m)
 abbrev pub told : Result (Unit {0}) Refusal → Tree → Result Tree Notice
 told (Ok u) t = Ok t
 told (Err refusal) t = Err (notice refusal)
+
+-- the parts of the model that goes with an answer: those checked, or one empty part
+abbrev pub partsKept : Result (Unit {0}) Refusal → List Part → List Part
+partsKept (Ok u) ps = ps
+partsKept (Err refusal) ps = record { kind = 0; symbol = 0; low = 0; high = 0 } ∷ []

@@ -9,3 +9,5 @@ pub mod Checked
 pub mod Checking
 pub mod Empties
 pub mod Sets
+pub mod Written
+pub mod Conflicts

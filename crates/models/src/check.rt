@@ -4,12 +4,13 @@ ghost use mathlib.Core.Path.{_≡_};
 ghost use mathlib.Core.List.{List, [], _∷_};
 ghost use Prim.Native.Nat.{ℕ, _+_, _<_, _≤_};
 ghost use lib.ListN.{length};
-ghost use Rattle.models.specs.Checked.{partsOf, treeOf, told as answered};
+ghost use Rattle.models.specs.Checked.{partsOf, treeOf, partsKept, told as answered};
 ghost use Rattle.models.specs.Checking.{flags, flagTaken, Admitted, Answers};
 ghost use Rattle.models.specs.Sheets.{reading, tableAnswer, tree, step};
 ghost use Rattle.models.specs.Stacks.{waiting as held, room};
 ghost use Rattle.models.specs.Told.{Told, AllFormed};
 ghost use Rattle.models.specs.Trees.{Tree, hasSymbol};
+ghost use Rattle.models.specs.Written.{TakenExactly};
 use crate::model::Model;
 use crate::part::Form;
 use crate::part::Part;
@@ -138,7 +139,9 @@ fn check_length(parts: &[Part]) -> Result<(), Refusal>
 
 /// Checks a table: 1 to 256 parts, then each part in turn, then that one waits.
 pub fn check<'a>(parts: &'a [Part]) -> Checked<'a>
-    ensures { λ r. ⌜ tableAnswer (now (parts .entry)) ≡ answered (r .answer) (treeOf (r .model)) ⌝ }
+    ensures answer { λ r. ⌜ tableAnswer (now (parts .entry)) ≡ answered (r .answer) (treeOf (r .model)) ⌝ }
+    ensures parts { λ r. ⌜ partsOf (r .model) ≡ partsKept (r .answer) (now (parts .entry)) ⌝ }
+    ensures law { λ _. ⌜ TakenExactly ⌝ }
 {
     let answer = check_length(parts);
     match answer {
