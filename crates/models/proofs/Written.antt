@@ -10,6 +10,7 @@ use lib.ListN.{length}
 use Rattle.std.proofs.shelf.Lists.{append-assoc, append-nil, map-append, length-append, length-map}
 use Rattle.std.proofs.shelf.Tests.{le-leb, leb-true, and-parts}
 use Rattle.std.proofs.shelf.Ways.{tells}
+use Rattle.std.specs.Results.{isOk}
 use Rattle.std.specs.declared.option.Option.{Option}
 use Rattle.std.specs.declared.option.Option.the-variants.{Some, None}
 use Rattle.std.specs.declared.result.Result.{Result}
@@ -19,7 +20,7 @@ use Rattle.models.specs.declared.part.Form.{Form}
 use Rattle.models.specs.declared.part.Form.the-variants.{Empty, Symbol, Choice, Sequence, Interleave, Count, Nonempty}
 use Rattle.models.specs.Parts.{formOf, fieldsFit, bounded}
 use Rattle.models.specs.Refusals.{Notice, atSet}
-use Rattle.models.specs.Sheets.{shape, join, symbolTaken, step, goOn, only, reading, tableAnswer}
+use Rattle.models.specs.Sheets.{shape, join, symbolTaken, step, goOn, only, reading, tableAnswer, isModel, treeOr, tree}
 use Rattle.models.specs.Told.{AllFormed}
 use Rattle.models.specs.Trees.{Tree, Bounds, Formed, hasSymbol}
 use Rattle.models.specs.Trees.Tree.{empty, symbol, choice, sequence, interleave, count, nonempty}
@@ -168,3 +169,11 @@ taken-exactly ps t = (
       let read : reading 0 ps [] ≡ Ok t = rw e (ap (λ qs. reading 0 qs []) (sym (append-nil (sheet t))) ∙ sheet-reads t formed 0 [] []) in
       rw (low, high, read)),
 )
+
+-- the parts of a model are the sheet of its tree
+answered-ok : (o : Result Tree Notice) → isOk o ≡ true → o ≡ Ok (treeOr empty o)
+answered-ok (Ok t) e = refl
+answered-ok (Err n) e = absurd (let z : _≡_ {A = ℕ} 0 1 = cc in omega arith)
+
+pub model-sheet : (ps : List Part) → isModel ps ≡ true → SheetOf ps (tree ps)
+model-sheet ps e = taken-exactly ps (tree ps) .0 (answered-ok (tableAnswer ps) e)

@@ -11,3 +11,4 @@ pub mod Empties
 pub mod Sets
 pub mod Written
 pub mod Conflicts
+pub mod Walk

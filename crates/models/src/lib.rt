@@ -1,5 +1,6 @@
 //! Message models: parts, checked models, and what is worked up from them.
 pub mod check;
+pub mod conflict;
 pub mod empty;
 pub mod model;
 pub mod part;
