@@ -15,7 +15,7 @@ use Rattle.models.specs.Conflicts.{Stands, Apart, isSymbol, ConflictFree, isTh
 use Rattle.models.specs.Trees.{Tree}
 use Rattle.models.specs.Trees.Tree.{empty, symbol, choice, sequence, interleave, count, nonempty}
 use Rattle.models.specs.Written.{subtrees}
-use Rattle.models.proofs.Walks.{met-append}
+use Rattle.models.proofs.Walks.{met-append, met-single}
 
 -- none of the parts clashes with those before it
 abbrev Clear : List Tree → List Tree → Type 0
@@ -38,11 +38,6 @@ clear-first before (u ∷ us) k e =
       (λ h. let n = not-here (clashAt (before ++ (u ∷ us)) k) k _ h in (sym here ∙ n .0, rest .0 (n .1))),
       (λ h. rw (here, h .0) (rest .1 (h .1))),
     )
-
--- a part that is no symbol part adds nothing to what is met
-met-single : (ts : List Tree) (u : Tree) (s : ℕ) → isThe s u ≡ false → met s (ts ++ (u ∷ [])) ≡ met s ts
-met-single [] u s n = rw n
-met-single (t ∷ ts) u s n = ap (λ b. isThe s t || b) (met-single ts u s n)
 
 -- a symbol stands in a tree exactly when it is met among its parts
 met-pair : (l r u : Tree) (s : ℕ) → subtrees u ≡ subtrees l ++ (subtrees r ++ (u ∷ [])) → isThe s u ≡ false → met s (subtrees u) ≡ (met s (subtrees l) || met s (subtrees r))
@@ -95,7 +90,7 @@ module _ (l r u : Tree) (e : subtrees u ≡ subtrees l ++ (subtrees r ++ (u ∷ 
       let a = f before (subtrees r ++ (u ∷ rest)) .0 (rw split-order at h) in
       let b = g (before ++ subtrees l) (u ∷ rest) .0 (a .1) in
       let parts : (s : ℕ) → Stands r s → (met s before ≡ false) × (met s (subtrees l) ≡ false) =
-          λ s z. or-parts (met s before) _ (sym (met-append s before (subtrees l)) ∙ b .0 .1 s z) in (
+      λ s z. or-parts (met s before) _ (sym (met-append s before (subtrees l)) ∙ b .0 .1 s z) in (
         (
           (a .0 .0, b .0 .0, λ s x y. both-ways (met s (subtrees l)) (parts s y .1) (met-is l s .1 x)),
           (λ s z. ⊎-elim (λ x. a .0 .1 s x) (λ y. parts s y .0) z),
@@ -107,8 +102,8 @@ module _ (l r u : Tree) (e : subtrees u ≡ subtrees l ++ (subtrees r ++ (u ∷ 
       → Clear before (subtrees u ++ rest)
   clear-pair (((p, q, apart), fresh), h) =
       let own : (s : ℕ) → Stands r s → met s (before ++ subtrees l) ≡ false =
-          λ s y. met-append s before (subtrees l) ∙ or-from (met s before) _ (fresh s (inr y))
-              (⊎-elim (λ z. absurd (apart s (met-is l s .0 z) y)) (λ z. z) (cases-bool (met s (subtrees l)))) in
+      λ s y. met-append s before (subtrees l) ∙ or-from (met s before) _ (fresh s (inr y))
+      (⊎-elim (λ z. absurd (apart s (met-is l s .0 z) y)) (λ z. z) (cases-bool (met s (subtrees l)))) in
       let b = g (before ++ subtrees l) (u ∷ rest) .1 ((q, own), (quiet ((before ++ subtrees l) ++ subtrees r), rw (← before-order) at h)) in
       rw split-order (f before (subtrees r ++ (u ∷ rest)) .1 ((p, λ s x. fresh s (inl x)), b))
 

@@ -7,7 +7,7 @@ use Prim.Native.Nat.{ℕ, zero, suc, _≤_}
 use native.Mathlib.Omega.{arith}
 use Rattle.std.proofs.shelf.Tests.{or-cases}
 use Rattle.models.specs.Messages.{Message, Shuffle, Joined}
-use Rattle.models.specs.Trees.{Tree, Fits, Between, Bounds, Formed, hasSymbol}
+use Rattle.models.specs.Trees.{Tree, Fits, Between, Bounds, Formed, Inhabited, hasSymbol}
 use Rattle.models.specs.Trees.Tree.{empty, symbol, choice, sequence, interleave, count, nonempty}
 use Rattle.models.proofs.Occurrences.{shuffle-append, repeated, joined-repeated}
 
@@ -26,14 +26,7 @@ repeated-nonempty (suc j) m h ne e = append-left m (repeated j m) ne e
 pub between-low : (low high : ℕ) → Bounds low high → Between low high low
 between-low low high (a, b, c) = (omega arith, ⊎-elim inl (λ d. inr (d .0)) c)
 
-abbrev pub Some-message : Tree → Type 0
-Some-message t = (m : Message) × Fits t m
-
-abbrev pub Nonempty-message : Tree → Type 0
-Nonempty-message t = (m : Message) × Fits t m × (m ≡ [] → ⊥)
-
--- messages of a tree, some and, where it has a symbol, a nonempty one
-messages : (t : Tree) → Formed t → Some-message t × (hasSymbol t ≡ true → Nonempty-message t)
+pub messages : (t : Tree) → Formed t → Inhabited t
 messages empty f = (([], refl), λ e. absurd (let z : _≡_ {A = ℕ} 0 1 = cc in omega arith))
 messages (symbol s) f = ((s ∷ [], refl), λ e. (s ∷ [], refl, λ z. let y : _≡_ {A = ℕ} 0 1 = cc in omega arith))
 messages (choice l r) (f, g) =
@@ -74,8 +67,5 @@ messages (nonempty t) (f, s) =
     let n = messages t f .1 s in
     ((n .0, (n .1, n .2)), λ e. (n .0, (n .1, n .2), n .2))
 
-pub some-message : (t : Tree) → Formed t → Some-message t
+pub some-message : (t : Tree) → Formed t → (m : Message) × Fits t m
 some-message t f = messages t f .0
-
-pub nonempty-message : (t : Tree) → Formed t → hasSymbol t ≡ true → Nonempty-message t
-nonempty-message t f e = messages t f .1 e

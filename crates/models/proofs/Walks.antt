@@ -102,15 +102,13 @@ met-append s (t ∷ ts) us = ap (λ b. isThe s t || b) (met-append s ts us) ∙ 
     or-assoc true b c = refl
     or-assoc false b c = refl
 
--- a part that is no symbol part adds nothing
+-- a part that is no symbol part adds nothing to what is met
+pub met-single : (ts : List Tree) (u : Tree) (s : ℕ) → isThe s u ≡ false → met s (ts ++ (u ∷ [])) ≡ met s ts
+met-single [] u s n = rw n
+met-single (t ∷ ts) u s n = ap (λ b. isThe s t || b) (met-single ts u s n)
+
 other-more : (set : ℕ) (ts : List Tree) (u : Tree) → ((s : ℕ) → isThe s u ≡ false) → SeenIs set ts → SeenIs (bitOr set 0) (ts ++ (u ∷ []))
-other-more set ts u none f s low =
-    let joined : met s (ts ++ (u ∷ [])) ≡ met s ts = met-append s ts (u ∷ []) ∙ rw (none s) (or-false (met s ts)) in
-    rw (or-zero-r set, joined) (f s low)
-  where
-    or-false : (b : Bool) → (b || false) ≡ b
-    or-false true = refl
-    or-false false = refl
+other-more set ts u none f s low = rw (or-zero-r set, met-single ts u s (none s)) (f s low)
 
 symbol-more : (set : ℕ) (ts : List Tree) (x : ℕ) → x ≤ 63 → SeenIs set ts → SeenIs (bitOr set (2 ^ x)) (ts ++ (symbol x ∷ []))
 symbol-more set ts x small f s low = (

@@ -22,9 +22,10 @@ use Rattle.models.specs.Parts.{formOf, fieldsFit, bounded}
 use Rattle.models.specs.Refusals.{Notice, atSet}
 use Rattle.models.specs.Sheets.{shape, join, symbolTaken, step, goOn, only, reading, tableAnswer, isModel, treeOr, tree}
 use Rattle.models.specs.Told.{AllFormed}
-use Rattle.models.specs.Trees.{Tree, Bounds, Formed, hasSymbol}
+use Rattle.models.specs.Trees.{Tree, Bounds, Formed, Inhabited}
 use Rattle.models.specs.Trees.Tree.{empty, symbol, choice, sequence, interleave, count, nonempty}
 use Rattle.models.specs.Written.{subtrees, part, partOf, sheet, SheetOf, TakenExactly}
+use Rattle.models.proofs.Inhabited.{messages}
 use Rattle.models.proofs.Admits.{stepped, step-made, went-on, only-made}
 
 -- the part of a form
@@ -177,3 +178,7 @@ answered-ok (Err n) e = absurd (let z : _≡_ {A = ℕ} 0 1 = cc in omega arith)
 
 pub model-sheet : (ps : List Part) → isModel ps ≡ true → SheetOf ps (tree ps)
 model-sheet ps e = taken-exactly ps (tree ps) .0 (answered-ok (tableAnswer ps) e)
+
+-- and so it has messages
+pub model-messages : (ps : List Part) → isModel ps ≡ true → Inhabited (tree ps)
+model-messages ps e = messages (tree ps) (model-sheet ps e .1)

@@ -43,6 +43,10 @@ hasSymbol (interleave l r) = hasSymbol l || hasSymbol r
 hasSymbol (count t low high) = hasSymbol t
 hasSymbol (nonempty t) = hasSymbol t
 
+-- some message fits, and some nonempty one where the tree has a symbol
+abbrev pub Inhabited : Tree → Type 0
+Inhabited t = ((m : Message) × Fits t m) × (hasSymbol t ≡ true → (m : Message) × Fits t m × (m ≡ [] → ⊥))
+
 -- the bounds that a count may have
 abbrev pub Bounds : ℕ → ℕ → Type 0
 Bounds low high = (1 ≤ low) × (low ≤ 10000) × ((high ≡ 0) ⊎ ((low ≤ high) × (high ≤ 10000)))

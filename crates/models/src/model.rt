@@ -7,11 +7,13 @@ ghost use Rattle.models.specs.Sheets.{isModel};
 use crate::part::Part;
 
 pub mod calls;
+pub mod check;
+pub mod conflict;
 
 /// A sheet that has been checked: its 1 to 256 parts read to a tree. The check
 /// alone makes one.
 #[derive(Clone, Copy)]
 pub struct Model<'a> {
-    pub(crate) parts: &'a [Part],
+    parts: &'a [Part],
     ghost checked: { isModel (held parts) ≡ true },
 }

@@ -11,7 +11,7 @@ pub mod calls;
 /// The first `len` places of the slice hold what waits, the last pushed last.
 #[derive(Drop)]
 pub struct Stack<'a, E> {
-    pub(crate) items: &'a mut [E],
-    pub(crate) len: usize,
+    items: &'a mut [E],
+    len: usize,
     ghost within: { len ≤ length (held items) },
 }

@@ -1,4 +1,4 @@
-//! Sets of symbols, and the summary of the symbols that messages have.
+//! Sets of symbols.
 
 ghost use mathlib.Core.Path.{_≡_};
 ghost use mathlib.Core.Bool.{cond};
@@ -6,11 +6,7 @@ ghost use Prim.Native.Nat.{_^_};
 ghost use lib.Bits.{bitOr};
 ghost use lib.Dec.{leb};
 ghost use Rattle.std.specs.Orderings.{Decides};
-ghost use Rattle.models.specs.Checked.{treeOf};
-ghost use Rattle.models.specs.Sets.{In, SymbolsAre};
-use crate::model::Model;
-use crate::summary::Summary;
-use crate::work::work_up;
+ghost use Rattle.models.specs.Sets.{In};
 
 /// A set of symbols: the bit worth 2^s stands for symbol s. A symbol above 63
 /// belongs to no set.
@@ -47,50 +43,4 @@ impl SymbolSet {
             bits: self.bits | other.bits,
         }
     }
-}
-
-/// The symbols that messages have.
-#[derive(Clone, Copy)]
-pub struct Symbols {}
-
-pub impl Summary for Symbols as SymbolsSummary {
-    type Value = SymbolSet;
-
-    ghost means = { λ _ t v. SymbolsAre t (v .bits) };
-
-    fn empty(&self) -> SymbolSet {
-        SymbolSet::EMPTY
-    }
-
-    fn symbol(&self, symbol: u32) -> SymbolSet {
-        SymbolSet::of(symbol)
-    }
-
-    fn choice(&self, left: SymbolSet, right: SymbolSet) -> SymbolSet {
-        left.union(right)
-    }
-
-    fn sequence(&self, left: SymbolSet, right: SymbolSet) -> SymbolSet {
-        left.union(right)
-    }
-
-    fn interleave(&self, left: SymbolSet, right: SymbolSet) -> SymbolSet {
-        left.union(right)
-    }
-
-    fn count(&self, of: SymbolSet, _low: u32, _high: u32) -> SymbolSet {
-        of
-    }
-
-    fn nonempty(&self, of: SymbolSet) -> SymbolSet {
-        of
-    }
-}
-
-/// The symbols of the model: those that some message of it has.
-pub fn symbols_of(model: &Model<'_>) -> SymbolSet
-    ensures { λ r. ⌜ SymbolsAre (treeOf (now (model .entry))) (r .bits) ⌝ }
-{
-    let mut work = [SymbolSet::EMPTY; 256];
-    work_up(&Symbols {}, model, &mut work)
 }
