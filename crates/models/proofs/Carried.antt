@@ -6,8 +6,8 @@ use Prim.Native.Nat.{ℕ, zero, suc, _≤_, _^_}
 use native.Mathlib.Omega.{arith}
 use lib.Bits.{bitOr}
 use Rattle.models.specs.Messages.{Message, Occurs, Joined}
-use Rattle.models.specs.Sets.{In, SymbolsAre}
-use Rattle.models.specs.Trees.{Tree, Fits, Carries, Between, Bounds, Formed, hasSymbol}
+use Rattle.models.specs.Sets.{In, SymbolsAre, StandingAre}
+use Rattle.models.specs.Trees.{Tree, Fits, Stands, Carries, Between, Bounds, Formed, hasSymbol}
 use Rattle.models.specs.Trees.Tree.{empty, symbol, choice, sequence, interleave, count, nonempty}
 use Rattle.models.proofs.Inhabited.{some-message, between-low}
 use Rattle.models.proofs.Occurrences.{occurs-append, occurs-left, occurs-right, occurs-shuffle, occurs-joined, shuffle-append, repeated, joined-repeated}
@@ -95,3 +95,27 @@ count-symbols a t low high b f s = ((λ h. count-carries t low high s b (f s .0 
 
 pub nonempty-symbols : (a : ℕ) (t : Tree) → SymbolsAre t a → SymbolsAre (nonempty t) a
 nonempty-symbols a t f s = ((λ h. nonempty-carries t s (f s .0 h)), (λ h. f s .1 (carries-nonempty t s h)))
+
+-- the symbols of a well-formed tree's messages are those that stand in it
+stands-carried : (t : Tree) (s : ℕ) → Formed t → Stands t s → Carries t s
+stands-carried empty s f h = absurd h
+stands-carried (symbol x) s f h = subst (Carries (symbol x)) h (symbol-carries x)
+stands-carried (choice l r) s f h = choice-carries l r s (⊎-elim (λ z. inl (stands-carried l s (f .0) z)) (λ z. inr (stands-carried r s (f .1) z)) h)
+stands-carried (sequence l r) s f h =
+    sequence-carries l r s (f .0) (f .1) (⊎-elim (λ z. inl (stands-carried l s (f .0) z)) (λ z. inr (stands-carried r s (f .1) z)) h)
+stands-carried (interleave l r) s f h =
+    interleave-carries l r s (f .0) (f .1) (⊎-elim (λ z. inl (stands-carried l s (f .0) z)) (λ z. inr (stands-carried r s (f .1) z)) h)
+stands-carried (count t low high) s f h = count-carries t low high s (f .1) (stands-carried t s (f .0) h)
+stands-carried (nonempty t) s f h = nonempty-carries t s (stands-carried t s (f .0) h)
+
+carried-stands : (t : Tree) (s : ℕ) → Carries t s → Stands t s
+carried-stands empty s h = carries-empty s h
+carried-stands (symbol x) s h = carries-symbol x s h
+carried-stands (choice l r) s h = ⊎-elim (λ z. inl (carried-stands l s z)) (λ z. inr (carried-stands r s z)) (carries-choice l r s h)
+carried-stands (sequence l r) s h = ⊎-elim (λ z. inl (carried-stands l s z)) (λ z. inr (carried-stands r s z)) (carries-sequence l r s h)
+carried-stands (interleave l r) s h = ⊎-elim (λ z. inl (carried-stands l s z)) (λ z. inr (carried-stands r s z)) (carries-interleave l r s h)
+carried-stands (count t low high) s h = carried-stands t s (carries-count t low high s h)
+carried-stands (nonempty t) s h = carried-stands t s (carries-nonempty t s h)
+
+pub standing-are : (t : Tree) (set : ℕ) → Formed t → SymbolsAre t set → StandingAre t set
+standing-are t set f g s = ((λ h. carried-stands t s (g s .0 h)), (λ h. g s .1 (stands-carried t s f h)))

@@ -11,8 +11,8 @@ use Rattle.std.proofs.shelf.Lists.{append-assoc, append-nil, getD-at, take-at, 
 use Rattle.std.proofs.shelf.Tests.{eqb-true, eq-eqb, cases-bool, both-ways, or-cases, or-parts, or-from, or-left, or-right, not-false, not-from-true}
 use Rattle.std.specs.declared.option.Option.{Option}
 use Rattle.std.specs.declared.option.Option.the-variants.{Some, None}
-use Rattle.models.specs.Conflicts.{Stands, Apart, isSymbol, ConflictFree, isThe, met, clashes, clashAt, firstPlace, firstConflict, NoneExactly}
-use Rattle.models.specs.Trees.{Tree}
+use Rattle.models.specs.Conflicts.{Apart, isSymbol, ConflictFree, isThe, met, clashes, clashAt, firstPlace, firstConflict, NoneExactly}
+use Rattle.models.specs.Trees.{Tree, Stands}
 use Rattle.models.specs.Trees.Tree.{empty, symbol, choice, sequence, interleave, count, nonempty}
 use Rattle.models.specs.Written.{subtrees}
 use Rattle.models.proofs.Walks.{met-append, met-single}

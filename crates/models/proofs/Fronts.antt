@@ -4,7 +4,7 @@ use mathlib.Core.List.{List, [], _∷_, reverse}
 use Prim.Native.Nat.{ℕ, _+_, _-_, _<_, _≤_}
 use native.Mathlib.Omega.{arith}
 use lib.ListN.{length, set, take, getD}
-use Rattle.std.proofs.shelf.Lists.{take-more, take-more-set, reverse-append, length-reverse, length-take-le}
+use Rattle.std.proofs.shelf.Lists.{take-more, take-more-set, reverse-append}
 use Rattle.models.specs.Stacks.{front}
 
 pub front-push : {X : Type 0} (xs : List X) (n : ℕ) (v : X) → n < length xs → front (set xs n v) (n + 1) ≡ v ∷ front xs n
@@ -15,6 +15,3 @@ front-pop xs n d p h =
     let less : n - 1 < length xs = omega arith in
     let back : n ≡ (n - 1) + 1 = omega arith in
     ap (front xs) back ∙ ap reverse (take-more xs (n - 1) d less) ∙ reverse-append (take (n - 1) xs) (getD xs (n - 1) d ∷ [])
-
-pub front-length : {X : Type 0} (xs : List X) (n : ℕ) → n ≤ length xs → length (front xs n) ≡ n
-front-length xs n h = simp (length-reverse, length-take-le n xs h)

@@ -2,25 +2,14 @@
 use mathlib.Core.Path.{_≡_}
 use mathlib.Core.Bool.{Bool, true, false, cond, not, _||_}
 use mathlib.Core.List.{List, [], _∷_}
-use mathlib.Core.Logic.{_⊎_}
 use Prim.Native.Nat.{ℕ, zero, suc, _+_}
 use lib.Dec.{eqb}
 use lib.ListN.{length, getD, take}
 use Rattle.std.specs.declared.option.Option.{Option}
 use Rattle.std.specs.declared.option.Option.the-variants.{Some, None}
-use Rattle.models.specs.Trees.{Tree}
+use Rattle.models.specs.Trees.{Tree, Stands}
 use Rattle.models.specs.Trees.Tree.{empty, symbol, choice, sequence, interleave, count, nonempty}
 use Rattle.models.specs.Written.{subtrees}
-
--- the symbol s stands in a part of the tree
-abbrev pub Stands : Tree → ℕ → Type 0
-Stands empty s = ⊥
-Stands (symbol x) s = x ≡ s
-Stands (choice l r) s = Stands l s ⊎ Stands r s
-Stands (sequence l r) s = Stands l s ⊎ Stands r s
-Stands (interleave l r) s = Stands l s ⊎ Stands r s
-Stands (count t low high) s = Stands t s
-Stands (nonempty t) s = Stands t s
 
 -- no symbol stands in both
 abbrev pub Apart : Tree → Tree → Type 0

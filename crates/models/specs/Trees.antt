@@ -33,6 +33,16 @@ Fits (nonempty t) m = Fits t m × (m ≡ [] → ⊥)
 abbrev pub Carries : Tree → ℕ → Type 0
 Carries t s = (m : Message) × Fits t m × Occurs s m
 
+-- the symbol s stands in a part of the tree
+abbrev pub Stands : Tree → ℕ → Type 0
+Stands empty s = ⊥
+Stands (symbol x) s = x ≡ s
+Stands (choice l r) s = Stands l s ⊎ Stands r s
+Stands (sequence l r) s = Stands l s ⊎ Stands r s
+Stands (interleave l r) s = Stands l s ⊎ Stands r s
+Stands (count t low high) s = Stands t s
+Stands (nonempty t) s = Stands t s
+
 -- whether it is or holds a symbol part
 abbrev pub hasSymbol : Tree → Bool
 hasSymbol empty = false

@@ -3,7 +3,7 @@
 ghost use mathlib.Core.Path.{_≡_};
 ghost use mathlib.Core.List.{[]};
 ghost use Prim.Native.Nat.{_≤_};
-ghost use lib.ListN.{length};
+ghost use lib.ListN.{length, take};
 ghost use Rattle.models.specs.Stacks.{waiting, firstOf, Pushed, Popped};
 use super::Stack;
 
@@ -17,18 +17,25 @@ impl<'a, E: Copy> Stack<'a, E> {
         Stack { items, len: 0 }
     }
 
+    // What waits, the first pushed first.
+    fn held(&self) -> &[E]
+        ensures { λ r. ⌜ now r ≡ take (now (self .entry) .len) (now (now (self .entry) .items)) ⌝ }
+    {
+        &self.items[0..self.len]
+    }
+
     /// How many values wait.
     pub fn len(&self) -> usize
         ensures { λ r. ⌜ r ≡ length (waiting (now (self .entry))) ⌝ }
     {
-        self.len
+        self.held().len()
     }
 
     /// The value pushed last, if any waits.
     pub fn last(&self) -> Option<E>
         ensures { λ r. ⌜ r ≡ firstOf (waiting (now (self .entry))) ⌝ }
     {
-        match &self.items[0..self.len] {
+        match self.held() {
             [.., top] => Some(*top),
             [] => None,
         }

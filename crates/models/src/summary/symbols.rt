@@ -1,7 +1,7 @@
 //! The summary of the symbols that messages have.
 
 ghost use Rattle.models.specs.Checked.{treeOf};
-ghost use Rattle.models.specs.Sets.{SymbolsAre};
+ghost use Rattle.models.specs.Sets.{SymbolsAre, StandingAre};
 use crate::model::Model;
 use crate::summary::Summary;
 use crate::summary::work::work_up;
@@ -45,9 +45,11 @@ pub impl Summary for Symbols as SymbolsSummary {
     }
 }
 
-/// The symbols of the model: those that some message of it has.
+/// The symbols of the model: those that some message of it has, which are those
+/// of its symbol parts.
 pub fn symbols_of(model: &Model<'_>) -> SymbolSet
-    ensures { λ r. ⌜ SymbolsAre (treeOf (now (model .entry))) (r .bits) ⌝ }
+    ensures exact { λ r. ⌜ SymbolsAre (treeOf (now (model .entry))) (r .bits) ⌝ }
+    ensures standing { λ r. ⌜ StandingAre (treeOf (now (model .entry))) (r .bits) ⌝ }
 {
     let mut work = [SymbolSet::EMPTY; 256];
     work_up(&Symbols {}, model, &mut work)

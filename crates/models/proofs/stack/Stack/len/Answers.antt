@@ -1,6 +1,7 @@
-use mathlib.Core.Path.{sym}
-use Rattle.models.proofs.Fronts.{front-length}
+use mathlib.Core.Path.{_∙_, ap, sym}
+use lib.ListN.{length}
+use Rattle.std.proofs.shelf.Lists.{length-reverse}
 use Rattle.models.proofs.stack.Stack.len.Needs as need
 
 pub returns : need.returns
-returns g c = sym (front-length _ _ (c .args .self .now .within))
+returns g c = ap length (c .held .ensures) ∙ sym (length-reverse _)
