@@ -14,17 +14,17 @@ use Rattle.std.specs.declared.option.Option.{Option}
 use Rattle.std.specs.declared.option.Option.the-variants.{Some, None}
 use Rattle.std.specs.declared.result.Result.{Result}
 use Rattle.std.specs.declared.result.Result.the-variants.{Ok, Err}
-use Rattle.models.specs.declared.part.Part.{Part}
-use Rattle.models.specs.declared.part.Form.{Form}
-use Rattle.models.specs.declared.part.Form.the-variants.{Empty, Symbol, Choice, Sequence, Interleave, Count, Nonempty}
-use Rattle.models.specs.Parts.{formOf, fieldsFit, takes}
+use Rattle.parts.specs.declared.part.Part.{Part}
+use Rattle.parts.specs.declared.part.Form.{Form}
+use Rattle.parts.specs.declared.part.Form.the-variants.{Empty, Symbol, Choice, Sequence, Interleave, Count, Nonempty}
+use Rattle.parts.specs.Parts.{formOf, fieldsFit, takes}
 use Rattle.models.specs.Trees.{Tree, Bounds}
 use Rattle.models.specs.Trees.Tree.{empty}
-use Rattle.models.specs.declared.refusal.PartFault.{PartFault}
-use Rattle.models.specs.declared.refusal.PartFault.the-variants.{NotOneWaiting}
-use Rattle.models.specs.Refusals.{Notice, partNotice, atSet}
+use Rattle.parts.specs.declared.refusal.PartFault.{PartFault}
+use Rattle.parts.specs.declared.refusal.PartFault.the-variants.{NotOneWaiting}
+use Rattle.parts.specs.Refusals.{Notice, partNotice, atSet}
 use Rattle.models.specs.Sheets.{shape, join, symbolTaken, joined, stepBy, step, goOn, only, reading, isModel, treeOr, tree}
-use Rattle.models.specs.Stacks.{firstOf}
+use Rattle.parts.specs.Stacks.{firstOf}
 use Rattle.models.specs.Told.{Told, AllFormed}
 use Rattle.models.specs.Checking.{flags, flagTaken, Admitted, Answers}
 

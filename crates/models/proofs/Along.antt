@@ -8,9 +8,9 @@ use lib.ListN.{length, drop, getD}
 use Rattle.std.proofs.shelf.Lists.{at-drop-more, at-drop-all}
 use Rattle.std.specs.declared.option.Option.the-variants.{Some, None}
 use Rattle.std.specs.declared.result.Result.the-variants.{Ok}
-use Rattle.models.specs.declared.part.Form.{Form}
-use Rattle.models.specs.declared.part.Part.{Part}
-use Rattle.models.specs.Parts.{formOf}
+use Rattle.parts.specs.declared.part.Form.{Form}
+use Rattle.parts.specs.declared.part.Part.{Part}
+use Rattle.parts.specs.Parts.{formOf}
 use Rattle.models.specs.Sheets.{shape, join, step, goOn, only, reading, isModel, tree}
 use Rattle.models.specs.Told.{Told, AllFormed}
 use Rattle.models.specs.Trees.{Tree}

@@ -1,11 +1,7 @@
-pub mod Along
 pub mod Admits
-pub mod Carried
+pub mod Along
 pub mod Conflicts
-pub mod Empties
-pub mod Fronts
 pub mod Inhabited
 pub mod Occurrences
-pub mod SymbolSets
 pub mod Walks
 pub mod Written

@@ -14,17 +14,17 @@ use Rattle.std.proofs.shelf.Ways.{same-from-decides}
 use Rattle.std.specs.Orderings.{Decides}
 use Rattle.std.specs.declared.option.Option.{Option}
 use Rattle.std.specs.declared.option.Option.the-variants.{Some, None}
-use Rattle.models.specs.declared.part.Part.{Part}
+use Rattle.parts.specs.declared.part.Part.{Part}
 use Rattle.models.specs.Conflicts.{isSymbol, isThe, met, clashes, clashAt, firstPlace, firstConflict}
-use Rattle.models.specs.Parts.{formOf}
-use Rattle.models.specs.Sets.{In}
+use Rattle.parts.specs.Parts.{formOf}
+use Rattle.parts.specs.Sets.{In}
 use Rattle.models.specs.Sheets.{isModel, tree}
 use Rattle.models.specs.Told.{AllFormed}
 use Rattle.models.specs.Trees.{Tree, Formed}
 use Rattle.models.specs.Trees.Tree.{empty, symbol, choice, sequence, interleave, count, nonempty}
 use Rattle.models.specs.Walk.{Clash, ownBits}
 use Rattle.models.specs.Written.{subtrees, partOf, sheet, SheetOf}
-use Rattle.models.proofs.SymbolSets.{in-left, in-right, in-either, in-one, in-none, power-bit}
+use Rattle.parts.proofs.SymbolSets.{in-left, in-right, in-either, in-one, in-none, power-bit}
 use Rattle.models.proofs.Written.{model-sheet}
 
 -- a count stands right after what it takes

@@ -15,11 +15,11 @@ use Rattle.std.specs.declared.option.Option.{Option}
 use Rattle.std.specs.declared.option.Option.the-variants.{Some, None}
 use Rattle.std.specs.declared.result.Result.{Result}
 use Rattle.std.specs.declared.result.Result.the-variants.{Ok, Err}
-use Rattle.models.specs.declared.part.Part.{Part}
-use Rattle.models.specs.declared.part.Form.{Form}
-use Rattle.models.specs.declared.part.Form.the-variants.{Empty, Symbol, Choice, Sequence, Interleave, Count, Nonempty}
-use Rattle.models.specs.Parts.{formOf, fieldsFit, bounded}
-use Rattle.models.specs.Refusals.{Notice, atSet}
+use Rattle.parts.specs.declared.part.Part.{Part}
+use Rattle.parts.specs.declared.part.Form.{Form}
+use Rattle.parts.specs.declared.part.Form.the-variants.{Empty, Symbol, Choice, Sequence, Interleave, Count, Nonempty}
+use Rattle.parts.specs.Parts.{formOf, fieldsFit, bounded}
+use Rattle.parts.specs.Refusals.{Notice, atSet}
 use Rattle.models.specs.Sheets.{shape, join, symbolTaken, step, goOn, only, reading, tableAnswer, isModel, treeOr, tree}
 use Rattle.models.specs.Told.{AllFormed}
 use Rattle.models.specs.Trees.{Tree, Bounds, Formed, Inhabited}

@@ -3,10 +3,10 @@ use mathlib.Core.List.{List, [], _∷_}
 use denote.Ref.{now}
 use Rattle.std.specs.declared.result.Result.{Result}
 use Rattle.std.specs.declared.result.Result.the-variants.{Ok, Err}
-use Rattle.models.specs.declared.part.Part.{Part}
+use Rattle.parts.specs.declared.part.Part.{Part}
 use Rattle.models.specs.declared.model.Model.{Model}
-use Rattle.models.specs.declared.refusal.Refusal.{Refusal}
-use Rattle.models.specs.Refusals.{Notice, notice}
+use Rattle.parts.specs.declared.refusal.Refusal.{Refusal}
+use Rattle.parts.specs.Refusals.{Notice, notice}
 use Rattle.models.specs.Sheets.{tree}
 use Rattle.models.specs.Trees.{Tree}
 

@@ -7,10 +7,10 @@ use Rattle.std.specs.declared.option.Option.{Option}
 use Rattle.std.specs.declared.option.Option.the-variants.{Some, None}
 use Rattle.std.specs.declared.result.Result.{Result}
 use Rattle.std.specs.declared.result.Result.the-variants.{Ok, Err}
-use Rattle.models.specs.declared.part.Form.{Form}
-use Rattle.models.specs.declared.part.Form.the-variants.{Empty, Symbol, Choice, Sequence, Interleave, Count, Nonempty}
-use Rattle.models.specs.declared.refusal.PartFault.{PartFault}
-use Rattle.models.specs.Refusals.{Notice, partNotice, atPart}
+use Rattle.parts.specs.declared.part.Form.{Form}
+use Rattle.parts.specs.declared.part.Form.the-variants.{Empty, Symbol, Choice, Sequence, Interleave, Count, Nonempty}
+use Rattle.parts.specs.declared.refusal.PartFault.{PartFault}
+use Rattle.parts.specs.Refusals.{Notice, partNotice, atPart}
 use Rattle.models.specs.Told.{Told, AllFormed}
 use Rattle.models.specs.Trees.{Tree, hasSymbol}
 

@@ -1,14 +1,9 @@
 pub mod Messages
 pub mod Trees
-pub mod Parts
-pub mod Refusals
-pub mod Stacks
 pub mod Sheets
 pub mod Told
 pub mod Checked
 pub mod Checking
-pub mod Empties
-pub mod Sets
 pub mod Written
 pub mod Conflicts
 pub mod Walk

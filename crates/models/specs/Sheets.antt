@@ -10,13 +10,13 @@ use Rattle.std.specs.declared.option.Option.{Option}
 use Rattle.std.specs.declared.option.Option.the-variants.{Some, None}
 use Rattle.std.specs.declared.result.Result.{Result}
 use Rattle.std.specs.declared.result.Result.the-variants.{Ok, Err}
-use Rattle.models.specs.declared.part.Part.{Part}
-use Rattle.models.specs.declared.part.Form.{Form}
-use Rattle.models.specs.declared.part.Form.the-variants.{Empty, Symbol, Choice, Sequence, Interleave, Count, Nonempty}
+use Rattle.parts.specs.declared.part.Part.{Part}
+use Rattle.parts.specs.declared.part.Form.{Form}
+use Rattle.parts.specs.declared.part.Form.the-variants.{Empty, Symbol, Choice, Sequence, Interleave, Count, Nonempty}
 use Rattle.models.specs.Trees.{Tree, hasSymbol}
 use Rattle.models.specs.Trees.Tree.{empty, symbol, choice, sequence, interleave, count, nonempty}
-use Rattle.models.specs.Parts.{formOf, fieldsFit}
-use Rattle.models.specs.Refusals.{Notice, atPart, atSet}
+use Rattle.parts.specs.Parts.{formOf, fieldsFit}
+use Rattle.parts.specs.Refusals.{Notice, atPart, atSet}
 
 -- what a form makes of the trees that it takes
 pub data Shape : Type 0 where

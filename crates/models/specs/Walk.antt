@@ -6,9 +6,9 @@ use lib.Dec.{leb}
 use Rattle.std.specs.Orderings.{Decides}
 use Rattle.std.specs.declared.option.Option.{Option}
 use Rattle.std.specs.declared.option.Option.the-variants.{Some, None}
-use Rattle.models.specs.declared.part.Form.{Form}
-use Rattle.models.specs.declared.part.Form.the-variants.{Empty, Symbol, Choice, Sequence, Interleave, Count, Nonempty}
-use Rattle.models.specs.Sets.{In}
+use Rattle.parts.specs.declared.part.Form.{Form}
+use Rattle.parts.specs.declared.part.Form.the-variants.{Empty, Symbol, Choice, Sequence, Interleave, Count, Nonempty}
+use Rattle.parts.specs.Sets.{In}
 
 -- with the symbols seen before, and whether the part before is a symbol part
 abbrev pub Clash : Option Form → ℕ → Bool → Bool → Type 0

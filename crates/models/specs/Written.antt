@@ -4,7 +4,7 @@ use mathlib.Core.List.{List, [], _∷_, _++_, map}
 use Prim.Native.Nat.{ℕ, _≤_}
 use lib.ListN.{length}
 use Rattle.std.specs.declared.result.Result.the-variants.{Ok}
-use Rattle.models.specs.declared.part.Part.{Part}
+use Rattle.parts.specs.declared.part.Part.{Part}
 use Rattle.models.specs.Sheets.{tableAnswer}
 use Rattle.models.specs.Trees.{Tree, Formed}
 use Rattle.models.specs.Trees.Tree.{empty, symbol, choice, sequence, interleave, count, nonempty}

@@ -4,7 +4,7 @@ ghost use mathlib.Core.Path.{_≡_};
 ghost use mathlib.Core.Bool.{true};
 ghost use denote.Ref.{now as held};
 ghost use Rattle.models.specs.Sheets.{isModel};
-use crate::part::Part;
+use parts::part::Part;
 
 pub mod calls;
 pub mod check;

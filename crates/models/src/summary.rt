@@ -4,8 +4,6 @@ ghost use Rattle.models.specs.Told.{Keeps1, Keeps2};
 ghost use Rattle.models.specs.Trees.{Tree, Formed};
 ghost use Rattle.models.specs.Trees.Tree.{empty as emptyTree, symbol as symbolTree, choice as choiceTree, sequence as sequenceTree, interleave as interleaveTree, count as countTree, nonempty as nonemptyTree};
 
-pub mod empty;
-pub mod symbols;
 pub mod work;
 
 /// Whoever implements it says by `means` what a value tells about a tree's

@@ -5,7 +5,7 @@ ghost use mathlib.Core.Bool.{true};
 ghost use Rattle.models.specs.Checked.{partsOf};
 ghost use Rattle.models.specs.Sheets.{isModel};
 use super::Model;
-use crate::part::Part;
+use parts::part::Part;
 
 impl<'a> Model<'a> {
     /// Its parts, in sheet order.

@@ -7,17 +7,17 @@ ghost use lib.ListN.{length};
 ghost use Rattle.models.specs.Checked.{partsOf, treeOf, partsKept, told as answered};
 ghost use Rattle.models.specs.Checking.{flags, flagTaken, Admitted, Answers};
 ghost use Rattle.models.specs.Sheets.{reading, tableAnswer, tree, step};
-ghost use Rattle.models.specs.Stacks.{waiting as held, room};
+ghost use Rattle.parts.specs.Stacks.{waiting as held, depth, room};
 ghost use Rattle.models.specs.Told.{Told, AllFormed};
 ghost use Rattle.models.specs.Trees.{Tree, Inhabited, hasSymbol};
 ghost use Rattle.models.specs.Written.{TakenExactly};
 use crate::model::Model;
-use crate::part::Form;
-use crate::part::Part;
-use crate::refusal::PartFault;
-use crate::refusal::Refusal;
-use crate::refusal::RefusalFromPart;
-use crate::stack::Stack;
+use parts::part::Form;
+use parts::part::Part;
+use parts::refusal::PartFault;
+use parts::refusal::Refusal;
+use parts::refusal::RefusalFromPart;
+use parts::stack::Stack;
 use crate::summary::Summary;
 use crate::summary::work::apply;
 
@@ -85,8 +85,8 @@ fn symbol_taken(form: Form, taken: Option<bool>) -> bool
 
 // Asks the questions of one part, and lets it wait.
 fn admit(place: usize, part: Part, waiting: &mut Stack<'_, bool>) -> Result<(), PartFault>
-    requires { ⌜ now waiting .len < room (now waiting) ⌝ }
-    ensures grows { λ _. ⌜ now (waiting .exit) .len ≤ now (waiting .entry) .len + 1 ⌝ }
+    requires { ⌜ depth (now waiting) < room (now waiting) ⌝ }
+    ensures grows { λ _. ⌜ depth (now (waiting .exit)) ≤ depth (now (waiting .entry)) + 1 ⌝ }
     ensures kept { λ _. ⌜ room (now (waiting .exit)) ≡ room (now (waiting .entry)) ⌝ }
     ensures admitted { λ r. ⌜ ((ts : List Tree) → Told flags ts (held (now (waiting .entry))) → AllFormed ts → Admitted place (step part ts) r (held (now (waiting .exit)))) ⌝ }
 {

@@ -3,12 +3,12 @@
 ghost use mathlib.Core.Path.{_≡_};
 ghost use Rattle.models.specs.Checked.{treeOf};
 ghost use Rattle.models.specs.Conflicts.{firstConflict, NoneExactly};
-ghost use Rattle.models.specs.Parts.{formOf};
+ghost use Rattle.parts.specs.Parts.{formOf};
 ghost use Rattle.models.specs.Walk.{Clash, ownBits};
 use crate::model::Model;
-use crate::part::Form;
-use crate::part::Part;
-use crate::symbols::SymbolSet;
+use parts::part::Form;
+use parts::part::Part;
+use parts::symbols::SymbolSet;
 
 // Whether the part is a symbol already seen, or a count that stands after
 // something else than a symbol part.

@@ -6,19 +6,19 @@ ghost use Prim.Native.Nat.{ℕ, _+_, _<_, _≤_};
 ghost use Rattle.std.specs.declared.option.Option.the-variants.{Some};
 ghost use Rattle.models.specs.Checked.{treeOf};
 ghost use Rattle.models.specs.Sheets.{shape, join};
-ghost use Rattle.models.specs.Stacks.{waiting, room};
+ghost use Rattle.parts.specs.Stacks.{waiting, depth, room};
 ghost use Rattle.models.specs.Told.{Told, AllFormed};
 ghost use Rattle.models.specs.Trees.{Tree};
 use crate::model::Model;
-use crate::part::Form;
-use crate::stack::Stack;
+use parts::part::Form;
+use parts::stack::Stack;
 use crate::summary::Summary;
 
 // Takes the values that the form takes, and lets its own wait. Where too few
 // wait there is nothing to tell of.
 pub(crate) fn apply<S: Summary>(summary: &S, form: Form, stack: &mut Stack<'_, S::Value>)
-    requires { ⌜ now stack .len < room (now stack) ⌝ }
-    ensures grows { λ _. ⌜ now (stack .exit) .len ≤ now (stack .entry) .len + 1 ⌝ }
+    requires { ⌜ depth (now stack) < room (now stack) ⌝ }
+    ensures grows { λ _. ⌜ depth (now (stack .exit)) ≤ depth (now (stack .entry)) + 1 ⌝ }
     ensures kept { λ _. ⌜ room (now (stack .exit)) ≡ room (now (stack .entry)) ⌝ }
     ensures told { λ _. ⌜ ((ts us : List Tree) → Told (means (now (summary .entry))) ts (waiting (now (stack .entry))) → join (shape form) ts ≡ Some us → AllFormed us → Told (means (now (summary .entry))) us (waiting (now (stack .exit)))) ⌝ }
 {

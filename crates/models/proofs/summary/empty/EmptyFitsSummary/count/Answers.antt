@@ -1,5 +1,0 @@
-use Rattle.models.proofs.Empties.{count-empty}
-use Rattle.models.proofs.summary.empty.EmptyFitsSummary.count.Needs as need
-
-pub returns : need.returns
-returns c t formed = count-empty (c .args .of) t (c .args .-low) (c .args .-high) (formed .1)

@@ -1,5 +1,0 @@
-use Rattle.models.proofs.Empties.{interleave-empty}
-use Rattle.models.proofs.summary.empty.EmptyFitsSummary.interleave.Needs as need
-
-pub returns : need.returns
-returns c l r formed = interleave-empty (c .args .left) (c .args .right) l r

@@ -1,5 +1,0 @@
-use Rattle.models.proofs.Empties.{sequence-empty}
-use Rattle.models.proofs.summary.empty.EmptyFitsSummary.sequence.Needs as need
-
-pub returns : need.returns
-returns c l r formed = sequence-empty (c .args .left) (c .args .right) l r

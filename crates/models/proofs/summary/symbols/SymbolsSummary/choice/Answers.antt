@@ -1,5 +1,0 @@
-use Rattle.models.proofs.Carried.{choice-symbols}
-use Rattle.models.proofs.summary.symbols.SymbolsSummary.choice.Needs as need
-
-pub returns : need.returns
-returns c l r formed f g = rw (c .union .ensures) (choice-symbols _ _ l r f g)

@@ -1,5 +1,0 @@
-use Rattle.models.proofs.SymbolSets.{bit-test}
-use Rattle.models.proofs.symbols.SymbolSet.has.Needs as need
-
-pub returns-then-symbol-le63 : need.returns-then-symbol-le63
-returns-then-symbol-le63 c = bit-test (c .args .self .now .bits) (c .args .symbol) (c .if-symbol-le63 .taken)

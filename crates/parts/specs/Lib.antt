@@ -1,0 +1,4 @@
+pub mod Parts
+pub mod Refusals
+pub mod Sets
+pub mod Stacks
