@@ -5,17 +5,17 @@ ghost use Rattle.parts.specs.Refusals.{notice};
 ghost use Rattle.season.specs.Answers.{FactsOf, RefusedBy, CheckAnswered, CallAnswered};
 ghost use Rattle.season.specs.Texts.{layerName, answered};
 use crate::script::Call;
+use models::model::Model;
 use models::model::check::Checked;
 use models::model::check::check;
 use models::model::conflict::first_conflict;
-use summaries::empty::empty_fits;
-use models::model::Model;
 use parts::part::Part;
 use parts::refusal::Layer;
 use parts::refusal::Refusal;
 use parts::symbols::SymbolSet;
-use summaries::symbols::symbols_of;
 use std::fmt;
+use summaries::empty::empty_fits;
+use summaries::symbols::symbols_of;
 
 /// How many symbols there are, one for each bit of a set.
 const SYMBOLS: u32 = 64;

@@ -12,14 +12,14 @@ ghost use Rattle.models.specs.Told.{Told, AllFormed};
 ghost use Rattle.models.specs.Trees.{Tree, Inhabited, hasSymbol};
 ghost use Rattle.models.specs.Written.{TakenExactly};
 use crate::model::Model;
+use crate::summary::Summary;
+use crate::summary::work::apply;
 use parts::part::Form;
 use parts::part::Part;
 use parts::refusal::PartFault;
 use parts::refusal::Refusal;
 use parts::refusal::RefusalFromPart;
 use parts::stack::Stack;
-use crate::summary::Summary;
-use crate::summary::work::apply;
 
 /// The answer of the check, with the model that it made.
 #[derive(Clone, Copy)]

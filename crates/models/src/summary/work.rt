@@ -10,9 +10,9 @@ ghost use Rattle.parts.specs.Stacks.{waiting, depth, room};
 ghost use Rattle.models.specs.Told.{Told, AllFormed};
 ghost use Rattle.models.specs.Trees.{Tree};
 use crate::model::Model;
+use crate::summary::Summary;
 use parts::part::Form;
 use parts::stack::Stack;
-use crate::summary::Summary;
 
 // Takes the values that the form takes, and lets its own wait. Where too few
 // wait there is nothing to tell of.
