@@ -9,6 +9,7 @@ use parts::part::Part;
 pub mod calls;
 pub mod check;
 pub mod conflict;
+mod has_symbol;
 
 /// A sheet that has been checked: its 1 to 256 parts read to a tree. The check
 /// alone makes one.

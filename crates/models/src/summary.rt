@@ -1,8 +1,8 @@
 //! A summary: a value for each kind of part from the values of the parts it takes.
 
 ghost use Rattle.models.specs.Told.{Keeps1, Keeps2};
-ghost use Rattle.models.specs.Trees.{Tree, Formed};
 ghost use Rattle.models.specs.Trees.Tree.{empty as emptyTree, symbol as symbolTree, choice as choiceTree, sequence as sequenceTree, interleave as interleaveTree, count as countTree, nonempty as nonemptyTree};
+ghost use Rattle.models.specs.Trees.{Tree, Formed};
 
 pub mod work;
 

@@ -1,10 +1,10 @@
 //! From a line of a script to the call that it makes, or to what is wrong with it.
 ghost use mathlib.Core.Path.{_≡_};
-ghost use Rattle.season.specs.declared.script.LineError.the-variants.{Memory};
+ghost use Rattle.std.specs.Parts.{split-whitespace-rest};
+ghost use Rattle.std.specs.declared.option.Option.the-variants.{Some};
 ghost use Rattle.season.specs.Lines.{CheckRead, CallRead, LineRead};
 ghost use Rattle.season.specs.Texts.{complaint};
-ghost use Rattle.std.specs.declared.option.Option.the-variants.{Some};
-ghost use Rattle.std.specs.Parts.{split-whitespace-rest};
+ghost use Rattle.season.specs.declared.script.LineError.the-variants.{Memory};
 use crate::read;
 use parts::part::Part;
 use std::alloc::Global;

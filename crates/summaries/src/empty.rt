@@ -3,8 +3,8 @@
 ghost use mathlib.Core.List.{[]};
 ghost use Rattle.std.specs.Orderings.{Decides};
 ghost use Rattle.models.specs.Checked.{treeOf};
-ghost use Rattle.summaries.specs.Empties.{EmptyCount};
 ghost use Rattle.models.specs.Trees.{Fits};
+ghost use Rattle.summaries.specs.Empties.{EmptyCount};
 use models::model::Model;
 use models::summary::Summary;
 use models::summary::work::work_up;

@@ -7,12 +7,13 @@ ghost use lib.ListN.{length};
 ghost use Rattle.models.specs.Checked.{partsOf, treeOf, partsKept, told as answered};
 ghost use Rattle.models.specs.Checking.{flags, flagTaken, Admitted, Answers};
 ghost use Rattle.models.specs.Sheets.{reading, tableAnswer, tree, step};
-ghost use Rattle.parts.specs.Stacks.{waiting as held, depth, room};
 ghost use Rattle.models.specs.Told.{Told, AllFormed};
-ghost use Rattle.models.specs.Trees.{Tree, Inhabited, hasSymbol};
+ghost use Rattle.models.specs.Trees.{Tree, Inhabited};
 ghost use Rattle.models.specs.Written.{TakenExactly};
+ghost use Rattle.parts.specs.Stacks.{waiting as held, depth, room};
 use crate::model::Model;
-use crate::summary::Summary;
+use crate::model::has_symbol::HasSymbol;
+use crate::model::has_symbol::HasSymbolSummary;
 use crate::summary::work::apply;
 use parts::part::Form;
 use parts::part::Part;
@@ -36,43 +37,6 @@ static EMPTY: [Part; 1] = [Part {
     high: 0,
 }];
 
-// Whether a part is or holds a symbol part.
-struct HasSymbol {}
-
-impl Summary for HasSymbol as HasSymbolSummary {
-    type Value = bool;
-
-    ghost means = { λ _ t v. v ≡ hasSymbol t };
-
-    fn empty(&self) -> bool {
-        false
-    }
-
-    fn symbol(&self, _symbol: u32) -> bool {
-        true
-    }
-
-    fn choice(&self, left: bool, right: bool) -> bool {
-        left || right
-    }
-
-    fn sequence(&self, left: bool, right: bool) -> bool {
-        left || right
-    }
-
-    fn interleave(&self, left: bool, right: bool) -> bool {
-        left || right
-    }
-
-    fn count(&self, of: bool, _low: u32, _high: u32) -> bool {
-        of
-    }
-
-    fn nonempty(&self, of: bool) -> bool {
-        of
-    }
-}
-
 // Whether a nonempty part takes a part with a symbol; the others need none.
 fn symbol_taken(form: Form, taken: Option<bool>) -> bool
     ensures { λ r. ⌜ r ≡ flagTaken form taken ⌝ }
@@ -84,7 +48,7 @@ fn symbol_taken(form: Form, taken: Option<bool>) -> bool
 }
 
 // Asks the questions of one part, and lets it wait.
-fn admit(place: usize, part: Part, waiting: &mut Stack<'_, bool>) -> Result<(), PartFault>
+fn check_part(place: usize, part: Part, waiting: &mut Stack<'_, bool>) -> Result<(), PartFault>
     requires { ⌜ depth (now waiting) < room (now waiting) ⌝ }
     ensures grows { λ _. ⌜ depth (now (waiting .exit)) ≤ depth (now (waiting .entry)) + 1 ⌝ }
     ensures kept { λ _. ⌜ room (now (waiting .exit)) ≡ room (now (waiting .entry)) ⌝ }
@@ -107,14 +71,14 @@ fn admit(place: usize, part: Part, waiting: &mut Stack<'_, bool>) -> Result<(), 
 }
 
 // Asks the questions of all parts, in turn.
-fn read(parts: &[Part]) -> Result<(), PartFault>
+fn check_parts(parts: &[Part]) -> Result<(), PartFault>
     requires { ⌜ length (now parts) ≤ 256 ⌝ }
     ensures { λ r. ⌜ Answers (reading 0 (now (parts .entry)) []) r ⌝ }
 {
     let mut flags = [false; 256];
     let mut waiting = Stack::new(&mut flags);
     for (place, part) in parts.iter().enumerate() {
-        admit(place, *part, &mut waiting)?;
+        check_part(place, *part, &mut waiting)?;
     }
     if waiting.len() == 1 {
         Ok(())
@@ -125,7 +89,8 @@ fn read(parts: &[Part]) -> Result<(), PartFault>
     }
 }
 
-fn check_length(parts: &[Part]) -> Result<(), Refusal>
+// Asks the one question of the whole table, and then those of its parts.
+fn check_table(parts: &[Part]) -> Result<(), Refusal>
     ensures { λ r. ⌜ tableAnswer (now (parts .entry)) ≡ answered r (tree (now (parts .entry))) ⌝ }
 {
     if parts.is_empty() || parts.len() > 256 {
@@ -133,7 +98,7 @@ fn check_length(parts: &[Part]) -> Result<(), Refusal>
             length: parts.len(),
         });
     }
-    read(parts)?;
+    check_parts(parts)?;
     Ok(())
 }
 
@@ -144,7 +109,7 @@ pub fn check<'a>(parts: &'a [Part]) -> Checked<'a>
     ensures law { λ _. ⌜ TakenExactly ⌝ }
     ensures messages { λ r. ⌜ Inhabited (treeOf (r .model)) ⌝ }
 {
-    let answer = check_length(parts);
+    let answer = check_table(parts);
     match answer {
         Ok(()) => Checked {
             answer,

@@ -3,8 +3,8 @@
 ghost use mathlib.Core.Path.{_≡_};
 ghost use Rattle.models.specs.Checked.{treeOf};
 ghost use Rattle.models.specs.Conflicts.{firstConflict, NoneExactly};
-ghost use Rattle.parts.specs.Parts.{formOf};
 ghost use Rattle.models.specs.Walk.{Clash, ownBits};
+ghost use Rattle.parts.specs.Parts.{formOf};
 use crate::model::Model;
 use parts::part::Form;
 use parts::part::Part;

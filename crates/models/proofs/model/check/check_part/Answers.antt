@@ -3,7 +3,7 @@ use native.Mathlib.Omega.{arith}
 use borrow.Author.Needs.{needs}
 use Rattle.models.specs.Checking.{flagTaken}
 use Rattle.models.proofs.Admits.{admit-ok}
-use Rattle.models.proofs.model.check.admit.Needs as need
+use Rattle.models.proofs.model.check.check_part.Needs as need
 
 pub returns : need.returns
 returns c = record {

@@ -3,7 +3,7 @@ use Prim.Native.Nat.{_≤_}
 use Rattle.models.specs.Checking.{flags}
 use Rattle.parts.specs.Stacks.{waiting, depth, room}
 use Rattle.models.proofs.Along.{Along}
-use Rattle.models.proofs.model.check.read.Given as given
+use Rattle.models.proofs.model.check.check_parts.Given as given
 
 abbrev pub Inv-loop-place : given.InvT-loop-place
 Inv-loop-place l =
