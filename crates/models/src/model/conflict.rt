@@ -4,18 +4,16 @@ ghost use mathlib.Core.Path.{_≡_};
 ghost use Rattle.models.specs.Checked.{treeOf};
 ghost use Rattle.models.specs.Conflicts.{firstConflict, NoneExactly};
 ghost use Rattle.models.specs.Walk.{Clash, ownBits};
-ghost use Rattle.parts.specs.Parts.{formOf};
 use crate::model::Model;
 use parts::part::Form;
-use parts::part::Part;
 use parts::symbols::SymbolSet;
 
 // Whether the part is a symbol already seen, or a count that stands after
 // something else than a symbol part.
-fn clashes(part: Part, seen: SymbolSet, after_symbol: bool) -> bool
-    ensures { λ r. ⌜ Clash (formOf part) (seen .bits) «after_symbol» r ⌝ }
+fn clashes(form: Option<Form>, seen: SymbolSet, after_symbol: bool) -> bool
+    ensures { λ r. ⌜ Clash form (seen .bits) «after_symbol» r ⌝ }
 {
-    match part.form() {
+    match form {
         Some(Form::Symbol(symbol)) => seen.has(symbol),
         Some(Form::Count { .. }) => !after_symbol,
         _ => false,
@@ -23,10 +21,10 @@ fn clashes(part: Part, seen: SymbolSet, after_symbol: bool) -> bool
 }
 
 // The symbol of a symbol part, as a set.
-fn own_symbol(part: Part) -> SymbolSet
-    ensures { λ r. ⌜ r .bits ≡ ownBits (formOf part) ⌝ }
+fn own_symbol(form: Option<Form>) -> SymbolSet
+    ensures { λ r. ⌜ r .bits ≡ ownBits form ⌝ }
 {
-    match part.form() {
+    match form {
         Some(Form::Symbol(symbol)) => SymbolSet::of(symbol),
         _ => SymbolSet::EMPTY,
     }
@@ -42,10 +40,11 @@ pub fn first_conflict(model: &Model<'_>) -> Option<usize>
     // what a count takes stands right before it
     let mut after_symbol = false;
     for (place, part) in model.parts().iter().enumerate() {
-        if clashes(*part, seen, after_symbol) {
+        let form = part.form();
+        if clashes(form, seen, after_symbol) {
             return Some(place);
         }
-        seen = seen.union(own_symbol(*part));
+        seen = seen.union(own_symbol(form));
         after_symbol = part.kind == 1;
     }
     None

@@ -10,14 +10,14 @@ pub returns-then-clashes : need.returns-then-clashes
 returns-then-clashes c = record {
   first =
       rw (← c .parts-part-items .ensures .same)
-      (walked-found _ (c .parts-part-items .ensures .checked) _ _ _ _ _ (c .loop-place .inv) (c .loop-place-test .taken) (c .clashes .ensures) (c .if-clashes .taken));
+      (walked-found _ (c .parts-part-items .ensures .checked) _ _ _ _ _ (c .loop-place .inv) (c .loop-place-test .taken) (rw (c .form-form .ensures) at (c .clashes .ensures)) (c .if-clashes .taken));
   law = none-exactly;
 }
 
 pub loop-place-again : need.loop-place-again
 loop-place-again c =
-    rw (c .union-seen .ensures, c .own-symbol .ensures)
-    (walked-more _ (c .parts-part-items .ensures .checked) _ _ _ _ _ (c .loop-place .inv) (c .loop-place-test .taken) (c .clashes .ensures) (c .if-clashes .left))
+    rw (c .union-seen .ensures, c .own-symbol .ensures, c .form-form .ensures)
+    (walked-more _ (c .parts-part-items .ensures .checked) _ _ _ _ _ (c .loop-place .inv) (c .loop-place-test .taken) (rw (c .form-form .ensures) at (c .clashes .ensures)) (c .if-clashes .left))
 
 pub returns : need.returns
 returns c = record {
