@@ -2,14 +2,14 @@
 use mathlib.Core.Path.{_≡_, refl, sym, ap, subst, _∙_}
 use mathlib.Core.Bool.{Bool, true, false, cond, _&&_}
 use mathlib.Core.List.{List, [], _∷_}
-use mathlib.Core.Logic.{_⊎_, inl, inr}
-use Prim.Native.Nat.{ℕ, zero, suc, _+_, _<_, _≤_}
+use mathlib.Core.Logic.{inl, inr}
+use Prim.Native.Nat.{ℕ, suc, _≤_}
 use native.Mathlib.Omega.{arith}
 use lib.Dec.{leb}
 use lib.ListN.{length}
 use Rattle.std.specs.Results.{isOk}
 use Rattle.std.proofs.shelf.Ways.{tells}
-use Rattle.std.proofs.shelf.Tests.{cases-eq, leb-true, and-parts}
+use Rattle.std.proofs.shelf.Tests.{cases-eq, leb-true, and-parts, false≢true}
 use Rattle.std.specs.declared.option.Option.{Option}
 use Rattle.std.specs.declared.option.Option.the-variants.{Some, None}
 use Rattle.std.specs.declared.result.Result.{Result}
@@ -27,6 +27,7 @@ use Rattle.models.specs.Sheets.{shape, join, symbolTaken, joined, stepBy, step
 use Rattle.parts.specs.Stacks.{firstOf}
 use Rattle.models.specs.Told.{Told, AllFormed}
 use Rattle.models.specs.Checking.{flags, flagTaken, Admitted, Answers}
+use Rattle.models.proofs.Unlike.{err-ok}
 
 -- what fitting fields say of a form's values
 abbrev pub FormFits : Form → Type 0
@@ -140,15 +141,15 @@ only-other n (t ∷ u ∷ ts) ne = refl
 
 -- what a part that fails no question makes
 joined-made : (o : Option (List Tree)) (holds : Bool) (us : List Tree) → joined o holds ≡ Ok us → (o ≡ Some us) × (holds ≡ true)
-joined-made None holds us e = absurd (let z : _≡_ {A = ℕ} 0 1 = cc in omega arith)
+joined-made None holds us e = absurd (err-ok _ _ e)
 joined-made (Some vs) true us e = (cc, refl)
-joined-made (Some vs) false us e = absurd (let z : _≡_ {A = ℕ} 0 1 = cc in omega arith)
+joined-made (Some vs) false us e = absurd (err-ok _ _ e)
 
 pub stepped : (o : Option Form) (fit : Bool) (ts us : List Tree) → stepBy o fit ts ≡ Ok us
     → (f : Form) × (o ≡ Some f) × (fit ≡ true) × (join (shape f) ts ≡ Some us) × (symbolTaken f ts ≡ true)
-stepped None fit ts us e = absurd (let z : _≡_ {A = ℕ} 0 1 = cc in omega arith)
+stepped None fit ts us e = absurd (err-ok _ _ e)
 stepped (Some f) true ts us e = let m = joined-made (join (shape f) ts) (symbolTaken f ts) us e in (f, refl, refl, m .0, m .1)
-stepped (Some f) false ts us e = absurd (let z : _≡_ {A = ℕ} 0 1 = cc in omega arith)
+stepped (Some f) false ts us e = absurd (err-ok _ _ e)
 
 pub step-made : (p : Part) (ts us : List Tree) → step p ts ≡ Ok us → AllFormed ts → (f : Form) × (formOf p ≡ Some f) × (join (shape f) ts ≡ Some us) × AllFormed us
 step-made p ts us e formed =
@@ -157,18 +158,18 @@ step-made p ts us e formed =
 
 pub went-on : (n : ℕ) (o : Result (List Tree) ℕ) (rest : List Tree → Result Tree Notice) (t : Tree) → goOn n o rest ≡ Ok t → (us : List Tree) × (o ≡ Ok us)
 went-on n (Ok us) rest t e = (us, refl)
-went-on n (Err question) rest t e = absurd (let z : _≡_ {A = ℕ} 0 1 = cc in omega arith)
+went-on n (Err question) rest t e = absurd (err-ok _ _ e)
 
 pub only-made : (n : ℕ) (ts : List Tree) (t : Tree) → only n ts ≡ Ok t → ts ≡ t ∷ []
-only-made n [] t e = absurd (let z : _≡_ {A = ℕ} 0 1 = cc in omega arith)
+only-made n [] t e = absurd (err-ok _ _ e)
 only-made n (u ∷ []) t e = cc
-only-made n (u ∷ v ∷ ts) t e = absurd (let z : _≡_ {A = ℕ} 0 1 = cc in omega arith)
+only-made n (u ∷ v ∷ ts) t e = absurd (err-ok _ _ e)
 
 -- a table that is a model has at most 256 parts, which read to its tree
 answer-made : (b : Bool) (o : Result Tree Notice) (n : Notice) → isOk (cond b o (Err n)) ≡ true → (b ≡ true) × (o ≡ Ok (treeOr empty (cond b o (Err n))))
 answer-made true (Ok t) n e = (refl, refl)
-answer-made true (Err m) n e = absurd (let z : _≡_ {A = ℕ} 0 1 = cc in omega arith)
-answer-made false o n e = absurd (let z : _≡_ {A = ℕ} 0 1 = cc in omega arith)
+answer-made true (Err m) n e = absurd (false≢true e)
+answer-made false o n e = absurd (false≢true e)
 
 pub model-reads : (ps : List Part) → isModel ps ≡ true → (length ps ≤ 256) × (reading 0 ps [] ≡ Ok (tree ps))
 model-reads ps e =

@@ -1,9 +1,8 @@
 -- On the way through a sheet: values that tell of the trees that wait. Assumes nothing.
-use mathlib.Core.Path.{_≡_, refl, sym, ap, subst, _∙_}
+use mathlib.Core.Path.{_≡_, refl, sym, _∙_}
 use mathlib.Core.Bool.{true}
 use mathlib.Core.List.{List, [], _∷_}
 use Prim.Native.Nat.{ℕ, _+_, _<_, _≤_}
-use native.Mathlib.Omega.{arith}
 use lib.ListN.{length, drop, getD}
 use Rattle.std.proofs.shelf.Lists.{at-drop-more, at-drop-all}
 use Rattle.std.specs.declared.option.Option.the-variants.{Some, None}
@@ -15,6 +14,7 @@ use Rattle.models.specs.Sheets.{shape, join, step, goOn, only, reading, isMode
 use Rattle.models.specs.Told.{Told, AllFormed}
 use Rattle.models.specs.Trees.{Tree}
 use Rattle.models.proofs.Admits.{went-on, step-made, only-made, model-reads}
+use Rattle.models.proofs.Unlike.{some-none}
 
 -- after i parts, the values vs tell of well-formed trees that make with the rest what all make
 pub record Along {V : Type 0} (M : Tree → V → Type 0) (ps : List Part) (i : ℕ) (vs : List V) : Type 0 where
@@ -55,8 +55,7 @@ module _ {V : Type 0} (M : Tree → V → Type 0) (ps : List Part) (checked : is
   pub checked-form : (d : Part) → i < length ps → None ≡ formOf (getD ps i d) → ⊥
   checked-form d within e =
       let (f, us, named, stepped, made, formed) = checked-next d within in
-      let z : _≡_ {A = ℕ} 0 1 = cc in
-      omega arith
+      some-none f (sym (e ∙ named))
 
   pub checked-more : (d : Part) (f : Form) (ws : List V) → i < length ps → Some f ≡ formOf (getD ps i d)
       → ((ts us : List Tree) → Told M ts vs → join (shape f) ts ≡ Some us → AllFormed us → Told M us ws) → Along M ps (i + 1) ws

@@ -1,21 +1,21 @@
 -- A model has no first conflict exactly when it is conflict-free. Assumes nothing.
 use mathlib.Core.Path.{_≡_, refl, sym, ap, subst, _∙_}
-use mathlib.Core.Bool.{Bool, true, false, cond, not, _||_}
+use mathlib.Core.Bool.{Bool, true, false, cond, _||_}
 use mathlib.Core.List.{List, [], _∷_, _++_}
 use mathlib.Core.Logic.{_⊎_, inl, inr, ⊎-elim}
-use Prim.Native.Nat.{ℕ, zero, suc, _+_, _≤_, _<_}
-use native.Mathlib.Omega.{arith}
+use Prim.Native.Nat.{ℕ, _+_}
 use lib.Dec.{eqb}
-use lib.ListN.{length, getD, take}
+use lib.ListN.{length}
 use Rattle.std.proofs.shelf.Lists.{append-assoc, append-nil, getD-at, take-at, length-push}
-use Rattle.std.proofs.shelf.Tests.{eqb-true, eq-eqb, cases-bool, both-ways, or-cases, or-parts, or-from, or-left, or-right, not-false, not-from-true}
+use Rattle.std.proofs.shelf.Tests.{eqb-true, eq-eqb, cases-bool, both-ways, or-cases, or-parts, or-from, or-left, or-right, not-false, not-from-true, false≢true}
 use Rattle.std.specs.declared.option.Option.{Option}
 use Rattle.std.specs.declared.option.Option.the-variants.{Some, None}
-use Rattle.models.specs.Conflicts.{Apart, isSymbol, ConflictFree, isThe, met, clashes, clashAt, firstPlace, firstConflict, NoneExactly}
+use Rattle.models.specs.Conflicts.{Apart, isSymbol, ConflictFree, isThe, met, clashes, clashAt, firstPlace, NoneExactly}
 use Rattle.models.specs.Trees.{Tree, Stands}
 use Rattle.models.specs.Trees.Tree.{empty, symbol, choice, sequence, interleave, count, nonempty}
 use Rattle.models.specs.Written.{subtrees}
 use Rattle.models.proofs.Walks.{met-append, met-single}
+use Rattle.models.proofs.Unlike.{some-none}
 
 -- none of the parts clashes with those before it
 abbrev Clear : List Tree → List Tree → Type 0
@@ -23,7 +23,7 @@ Clear before [] = Unit {0}
 Clear before (u ∷ us) = (clashes before u ≡ false) × Clear (before ++ (u ∷ [])) us
 
 not-here : (b : Bool) (k : ℕ) (o : Option ℕ) → cond b (Some k) o ≡ None → (b ≡ false) × (o ≡ None)
-not-here true k o e = absurd (let z : _≡_ {A = ℕ} 0 1 = cc in omega arith)
+not-here true k o e = absurd (some-none k e)
 not-here false k o e = (refl, e)
 
 -- the first place from the one after `before` on
@@ -56,9 +56,9 @@ pair-met l r u s e none f g =
     )
 
 pub met-is : (t : Tree) (s : ℕ) → MetIs t s
-met-is empty s = ((λ h. absurd (let z : _≡_ {A = ℕ} 0 1 = cc in omega arith)), (λ h. absurd h))
+met-is empty s = ((λ h. absurd (false≢true h)), (λ h. absurd h))
 met-is (symbol x) s = (
-  (λ h. ⊎-elim (λ z. eqb-true x s z) (λ z. absurd (let y : _≡_ {A = ℕ} 0 1 = cc in omega arith)) (or-cases (eqb x s) false h)),
+  (λ h. ⊎-elim (λ z. eqb-true x s z) (λ z. absurd (false≢true z)) (or-cases (eqb x s) false h)),
   (λ h. or-left (eqb x s) false (eq-eqb x s h)),
 )
 met-is (choice l r) s = pair-met l r (choice l r) s refl refl (met-is l s) (met-is r s)
@@ -110,11 +110,11 @@ module _ (l r u : Tree) (e : subtrees u ≡ subtrees l ++ (subtrees r ++ (u ∷ 
 symbol-free : (t : Tree) → isSymbol t ≡ true → ConflictFree t
 symbol-free empty e = tt
 symbol-free (symbol s) e = tt
-symbol-free (choice l r) e = absurd (let z : _≡_ {A = ℕ} 0 1 = cc in omega arith)
-symbol-free (sequence l r) e = absurd (let z : _≡_ {A = ℕ} 0 1 = cc in omega arith)
-symbol-free (interleave l r) e = absurd (let z : _≡_ {A = ℕ} 0 1 = cc in omega arith)
-symbol-free (count t low high) e = absurd (let z : _≡_ {A = ℕ} 0 1 = cc in omega arith)
-symbol-free (nonempty t) e = absurd (let z : _≡_ {A = ℕ} 0 1 = cc in omega arith)
+symbol-free (choice l r) e = absurd (false≢true e)
+symbol-free (sequence l r) e = absurd (false≢true e)
+symbol-free (interleave l r) e = absurd (false≢true e)
+symbol-free (count t low high) e = absurd (false≢true e)
+symbol-free (nonempty t) e = absurd (false≢true e)
 
 clear-is : (t : Tree) → ClearIs t
 clear-is empty = λ before rest. ((λ h. ((tt, λ s z. absurd z), h .1)), (λ h. (refl, h .1)))

@@ -1,23 +1,23 @@
 -- Every well-formed tree has a message, and one that has a symbol a nonempty one. Assumes nothing.
-use mathlib.Core.Path.{_≡_, refl, sym, ap, subst}
-use mathlib.Core.Bool.{true, false}
-use mathlib.Core.List.{List, [], _∷_, _++_}
+use mathlib.Core.Path.{_≡_, refl}
+use mathlib.Core.List.{[], _∷_, _++_}
 use mathlib.Core.Logic.{_⊎_, inl, inr, ⊎-elim}
 use Prim.Native.Nat.{ℕ, zero, suc, _≤_}
 use native.Mathlib.Omega.{arith}
-use Rattle.std.proofs.shelf.Tests.{or-cases}
-use Rattle.models.specs.Messages.{Message, Shuffle, Joined}
+use Rattle.std.proofs.shelf.Tests.{or-cases, false≢true}
+use Rattle.models.specs.Messages.{Message}
 use Rattle.models.specs.Trees.{Tree, Fits, Between, Bounds, Formed, Inhabited, hasSymbol}
 use Rattle.models.specs.Trees.Tree.{empty, symbol, choice, sequence, interleave, count, nonempty}
 use Rattle.models.proofs.Occurrences.{shuffle-append, repeated, joined-repeated}
+use Rattle.models.proofs.Unlike.{cons-nil}
 
 append-left : (a b : Message) → (a ≡ [] → ⊥) → a ++ b ≡ [] → ⊥
 append-left [] b ne e = ne refl
-append-left (x ∷ a) b ne e = let z : _≡_ {A = ℕ} 0 1 = cc in omega arith
+append-left (x ∷ a) b ne e = cons-nil x (a ++ b) e
 
 append-right : (a b : Message) → (b ≡ [] → ⊥) → a ++ b ≡ [] → ⊥
 append-right [] b ne e = ne e
-append-right (x ∷ a) b ne e = let z : _≡_ {A = ℕ} 0 1 = cc in omega arith
+append-right (x ∷ a) b ne e = cons-nil x (a ++ b) e
 
 repeated-nonempty : (j : ℕ) (m : Message) → 1 ≤ j → (m ≡ [] → ⊥) → repeated j m ≡ [] → ⊥
 repeated-nonempty zero m h ne e = omega arith
@@ -27,8 +27,8 @@ pub between-low : (low high : ℕ) → Bounds low high → Between low high low
 between-low low high (a, b, c) = (omega arith, ⊎-elim inl (λ d. inr (d .0)) c)
 
 pub messages : (t : Tree) → Formed t → Inhabited t
-messages empty f = (([], refl), λ e. absurd (let z : _≡_ {A = ℕ} 0 1 = cc in omega arith))
-messages (symbol s) f = ((s ∷ [], refl), λ e. (s ∷ [], refl, λ z. let y : _≡_ {A = ℕ} 0 1 = cc in omega arith))
+messages empty f = (([], refl), λ e. absurd (false≢true e))
+messages (symbol s) f = ((s ∷ [], refl), λ e. (s ∷ [], refl, cons-nil s []))
 messages (choice l r) (f, g) =
     let p = messages l f in
     let q = messages r g in (

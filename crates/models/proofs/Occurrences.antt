@@ -1,9 +1,9 @@
 -- Which symbols stand in messages that are put together, and that they can be put together. Assumes nothing.
-use mathlib.Core.Path.{_≡_, refl, sym, ap, subst}
-use mathlib.Core.List.{List, [], _∷_, _++_}
+use mathlib.Core.Path.{refl, sym, subst}
+use mathlib.Core.List.{[], _∷_, _++_}
 use mathlib.Core.Logic.{_⊎_, inl, inr, ⊎-elim}
 use Prim.Native.Nat.{ℕ, zero, suc}
-use Rattle.models.specs.Messages.{Message, Occurs, Followed, Shuffle, Joined}
+use Rattle.models.specs.Messages.{Message, Occurs, Shuffle, Joined}
 use Rattle.models.specs.Messages.Shuffle.{done, left, right}
 
 pub occurs-append : (s : ℕ) (a b : Message) → Occurs s (a ++ b) → Occurs s a ⊎ Occurs s b

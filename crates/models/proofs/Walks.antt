@@ -1,18 +1,16 @@
 -- The walk through a sheet for the first conflict. Assumes nothing.
 use mathlib.Core.Path.{_≡_, refl, sym, ap, subst, _∙_}
-use mathlib.Core.Bool.{Bool, true, false, cond, not, _||_}
-use mathlib.Core.List.{List, [], _∷_, _++_, map}
-use mathlib.Core.Logic.{_⊎_, inl, inr, ⊎-elim}
+use mathlib.Core.Bool.{Bool, true, false, not, _||_}
+use mathlib.Core.List.{List, [], _∷_, _++_}
+use mathlib.Core.Logic.{_⊎_, ⊎-elim}
 use Prim.Native.Nat.{ℕ, zero, suc, _+_, _-_, _^_, _≤_, _<_}
 use native.Mathlib.Omega.{arith}
 use lib.Bits.{bitOr, or-zero-r}
 use lib.Dec.{eqb, leb}
 use lib.ListN.{length, getD, take}
 use Rattle.std.proofs.shelf.Lists.{append-assoc, append-nil, getD-map, length-map, take-more}
-use Rattle.std.proofs.shelf.Tests.{le-leb, eqb-true, eq-eqb, or-cases, or-left, or-right, cond-true}
+use Rattle.std.proofs.shelf.Tests.{le-leb, eqb-true, eq-eqb, or-cases, or-left, or-right, cond-true, false≢true}
 use Rattle.std.proofs.shelf.Ways.{same-from-decides}
-use Rattle.std.specs.Orderings.{Decides}
-use Rattle.std.specs.declared.option.Option.{Option}
 use Rattle.std.specs.declared.option.Option.the-variants.{Some, None}
 use Rattle.parts.specs.declared.part.Part.{Part}
 use Rattle.models.specs.Conflicts.{isSymbol, isThe, met, clashes, clashAt, firstPlace, firstConflict}
@@ -123,7 +121,7 @@ symbol-more set ts x small f s low = (
 )
   where
     own : (eqb x s || false) ≡ true → x ≡ s
-    own e = ⊎-elim (λ z. eqb-true x s z) (λ z. absurd (let y : _≡_ {A = ℕ} 0 1 = cc in omega arith)) (or-cases (eqb x s) false e)
+    own e = ⊎-elim (λ z. eqb-true x s z) (λ z. absurd (false≢true z)) (or-cases (eqb x s) false e)
 
 seen-more : (set : ℕ) (ts : List Tree) (u : Tree) → Formed u → SeenIs set ts → SeenIs (bitOr set (ownBits (formOf (partOf u)))) (ts ++ (u ∷ []))
 seen-more set ts empty f = other-more set ts empty (λ s. refl)
@@ -183,7 +181,7 @@ module _ (ps : List Part) (checked : isModel ps ≡ true) where
   pub walked-none : Walked ps 0 0 false
   walked-none = record {
     rest = let none : length ps - 0 ≡ length trees = let l = long in omega arith in rw none;
-    seen = λ s low. ((λ h. absurd (in-none s h)), (λ h. absurd (let z : _≡_ {A = ℕ} 0 1 = cc in omega arith)));
+    seen = λ s low. ((λ h. absurd (in-none s h)), (λ h. absurd (false≢true h)));
     before = refl;
   }
 

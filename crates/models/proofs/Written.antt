@@ -2,13 +2,13 @@
 use mathlib.Core.Path.{_≡_, refl, sym, ap, subst, _∙_}
 use mathlib.Core.Bool.{Bool, true, false, cond, _&&_}
 use mathlib.Core.List.{List, [], _∷_, _++_, map}
-use mathlib.Core.Logic.{_⊎_, inl, inr}
-use Prim.Native.Nat.{ℕ, zero, suc, _+_, _≤_, _<_}
+use mathlib.Core.Logic.{inl, inr}
+use Prim.Native.Nat.{ℕ, _+_, _≤_}
 use native.Mathlib.Omega.{arith}
-use lib.Dec.{eqb, leb}
+use lib.Dec.{leb}
 use lib.ListN.{length}
 use Rattle.std.proofs.shelf.Lists.{append-assoc, append-nil, map-append, length-append, length-map}
-use Rattle.std.proofs.shelf.Tests.{le-leb, leb-true, and-parts}
+use Rattle.std.proofs.shelf.Tests.{le-leb, leb-true, and-parts, false≢true}
 use Rattle.std.proofs.shelf.Ways.{tells}
 use Rattle.std.specs.Results.{isOk}
 use Rattle.std.specs.declared.option.Option.{Option}
@@ -20,13 +20,14 @@ use Rattle.parts.specs.declared.part.Form.{Form}
 use Rattle.parts.specs.declared.part.Form.the-variants.{Empty, Symbol, Choice, Sequence, Interleave, Count, Nonempty}
 use Rattle.parts.specs.Parts.{formOf, fieldsFit, bounded}
 use Rattle.parts.specs.Refusals.{Notice, atSet}
-use Rattle.models.specs.Sheets.{shape, join, symbolTaken, step, goOn, only, reading, tableAnswer, isModel, treeOr, tree}
+use Rattle.models.specs.Sheets.{shape, join, step, reading, tableAnswer, isModel, treeOr, tree}
 use Rattle.models.specs.Told.{AllFormed}
 use Rattle.models.specs.Trees.{Tree, Bounds, Formed, Inhabited}
 use Rattle.models.specs.Trees.Tree.{empty, symbol, choice, sequence, interleave, count, nonempty}
 use Rattle.models.specs.Written.{subtrees, part, partOf, sheet, SheetOf, TakenExactly}
 use Rattle.models.proofs.Inhabited.{messages}
 use Rattle.models.proofs.Admits.{stepped, step-made, went-on, only-made}
+use Rattle.models.proofs.Unlike.{err-ok}
 
 -- the part of a form
 formPart : Form → Part
@@ -154,7 +155,7 @@ some-part (nonempty t) = simp length-append (omega arith)
 
 answer-ok : (b : Bool) (o : Result Tree Notice) (n : Notice) (t : Tree) → cond b o (Err n) ≡ Ok t → (b ≡ true) × (o ≡ Ok t)
 answer-ok true o n t e = (refl, e)
-answer-ok false o n t e = absurd (let z : _≡_ {A = ℕ} 0 1 = cc in omega arith)
+answer-ok false o n t e = absurd (err-ok _ _ e)
 
 pub taken-exactly : TakenExactly
 unfolding laid Reads
@@ -174,7 +175,7 @@ taken-exactly ps t = (
 -- the parts of a model are the sheet of its tree
 answered-ok : (o : Result Tree Notice) → isOk o ≡ true → o ≡ Ok (treeOr empty o)
 answered-ok (Ok t) e = refl
-answered-ok (Err n) e = absurd (let z : _≡_ {A = ℕ} 0 1 = cc in omega arith)
+answered-ok (Err n) e = absurd (false≢true e)
 
 pub model-sheet : (ps : List Part) → isModel ps ≡ true → SheetOf ps (tree ps)
 model-sheet ps e = taken-exactly ps (tree ps) .0 (answered-ok (tableAnswer ps) e)

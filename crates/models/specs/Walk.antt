@@ -1,6 +1,6 @@
 -- What the walk for the first conflict asks of one part. Assumes nothing.
 use mathlib.Core.Path.{_≡_}
-use mathlib.Core.Bool.{Bool, true, false, cond, not}
+use mathlib.Core.Bool.{Bool, false, cond, not}
 use Prim.Native.Nat.{ℕ, _^_}
 use lib.Dec.{leb}
 use Rattle.std.specs.Orderings.{Decides}

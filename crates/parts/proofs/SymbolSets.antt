@@ -1,15 +1,14 @@
 -- Which symbols stand in a set, a union and a set of one. Assumes nothing.
-use mathlib.Core.Path.{_≡_, refl, sym, ap, _∙_}
-use mathlib.Core.Bool.{Bool, true, false, cond}
-use mathlib.Core.Logic.{_⊎_, inl, inr, ⊎-elim}
-use Prim.Native.Nat.{ℕ, zero, suc, _+_, _-_, _*_, _/_, _%_, _^_, _≤_, _<_, max}
+use mathlib.Core.Path.{_≡_, sym, ap, _∙_}
+use mathlib.Core.Logic.{_⊎_, inl, inr}
+use Prim.Native.Nat.{ℕ, suc, _+_, _-_, _*_, _/_, _%_, _^_, _≤_, max}
 use native.Mathlib.Nat.{two-pow-succ, div-eq-of-lt, zero-div}
 use native.Mathlib.Omega.{arith}
 use lib.Bits.{bitAnd, bitOr, or-shr, or-step}
-use lib.Dec.{eqb, leb}
+use lib.Dec.{eqb}
 use Rattle.std.specs.Orderings.{Decides}
 use Rattle.std.proofs.shelf.Bits.{pow-add, pow-below, shl-shr, and-mask}
-use Rattle.std.proofs.shelf.Tests.{cases-eq, cases-order, eqb-true, eq-eqb, le-leb}
+use Rattle.std.proofs.shelf.Tests.{cases-eq, cases-order, eqb-true, eq-eqb}
 use Rattle.parts.specs.Sets.{In}
 
 -- a bit of a union

@@ -1,7 +1,5 @@
 //! A stack over a lent slice, for values of any type.
 
-ghost use mathlib.Core.Path.{_≡_};
-ghost use mathlib.Core.List.{[]};
 ghost use Prim.Native.Nat.{_≤_};
 ghost use lib.ListN.{length};
 ghost use denote.Ref.{now as held};

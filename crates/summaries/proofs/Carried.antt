@@ -1,14 +1,14 @@
 -- Which symbols the messages of a tree have, kind by kind. Assumes nothing.
-use mathlib.Core.Path.{_≡_, refl, sym, ap, subst, _∙_}
-use mathlib.Core.List.{List, [], _∷_, _++_}
+use mathlib.Core.Path.{_≡_, refl, sym, subst}
+use mathlib.Core.List.{[], _∷_, _++_}
 use mathlib.Core.Logic.{_⊎_, inl, inr, ⊎-elim}
 use Prim.Native.Nat.{ℕ, zero, suc, _≤_, _^_}
 use native.Mathlib.Omega.{arith}
 use lib.Bits.{bitOr}
-use Rattle.models.specs.Messages.{Message, Occurs, Joined}
+use Rattle.models.specs.Messages.{Message, Occurs}
 use Rattle.parts.specs.Sets.{In}
 use Rattle.summaries.specs.SymbolsOf.{SymbolsAre, StandingAre}
-use Rattle.models.specs.Trees.{Tree, Fits, Stands, Carries, Between, Bounds, Formed, hasSymbol}
+use Rattle.models.specs.Trees.{Tree, Fits, Stands, Carries, Bounds, Formed}
 use Rattle.models.specs.Trees.Tree.{empty, symbol, choice, sequence, interleave, count, nonempty}
 use Rattle.models.proofs.Inhabited.{some-message, between-low}
 use Rattle.models.proofs.Occurrences.{occurs-append, occurs-left, occurs-right, occurs-shuffle, occurs-joined, shuffle-append, repeated, joined-repeated}

@@ -1,21 +1,22 @@
 -- When the empty message fits. Assumes nothing.
-use mathlib.Core.Path.{_≡_, refl, sym, subst}
-use mathlib.Core.Bool.{Bool, true, false, _&&_}
-use mathlib.Core.List.{List, [], _∷_, _++_}
+use mathlib.Core.Path.{refl, subst}
+use mathlib.Core.Bool.{Bool, _&&_}
+use mathlib.Core.List.{[], _∷_, _++_}
 use Prim.Native.Nat.{ℕ, zero, suc, _≤_}
 use native.Mathlib.Omega.{arith}
 use Rattle.std.specs.Orderings.{Decides}
 use Rattle.std.proofs.shelf.Ways.{decides-and, decides-like}
-use Rattle.models.specs.Messages.{Message, Shuffle, Followed, Shuffled, Joined}
-use Rattle.models.specs.Messages.Shuffle.{done, left, right}
-use Rattle.models.specs.Trees.{Tree, Fits, Between, Bounds}
+use Rattle.models.specs.Messages.{Message, Shuffle, Followed, Joined}
+use Rattle.models.specs.Messages.Shuffle.{done}
+use Rattle.models.specs.Trees.{Tree, Fits, Bounds}
 use Rattle.models.specs.Trees.Tree.{sequence, interleave, count}
 use Rattle.summaries.specs.Empties.{EmptyCount}
 use Rattle.models.proofs.Inhabited.{between-low}
+use Rattle.models.proofs.Unlike.{cons-nil}
 
 followed-empty : (P Q : Message → Type 0) → Followed P Q [] → P [] × Q []
 followed-empty P Q ([], b, e, p, q) = (p, subst Q e q)
-followed-empty P Q (x ∷ a, b, e, p, q) = absurd (let z : _≡_ {A = ℕ} 0 1 = cc in omega arith)
+followed-empty P Q (x ∷ a, b, e, p, q) = absurd (cons-nil x (a ++ b) e)
 
 both-empty : (P Q : Message → Type 0) {a b : Message} → Shuffle a b [] → P a → Q b → P [] × Q []
 both-empty P Q done p q = (p, q)

@@ -1,8 +1,8 @@
 //! The check of a table of parts, which alone makes models.
 
 ghost use mathlib.Core.Path.{_≡_};
-ghost use mathlib.Core.List.{List, [], _∷_};
-ghost use Prim.Native.Nat.{ℕ, _+_, _<_, _≤_};
+ghost use mathlib.Core.List.{List, []};
+ghost use Prim.Native.Nat.{_+_, _<_, _≤_};
 ghost use lib.ListN.{length};
 ghost use Rattle.models.specs.Checked.{partsOf, treeOf, partsKept, told as answered};
 ghost use Rattle.models.specs.Checking.{flags, flagTaken, Admitted, Answers};

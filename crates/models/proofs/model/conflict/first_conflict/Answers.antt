@@ -1,4 +1,3 @@
-use mathlib.Core.Path.{_∙_, ap}
 use Rattle.models.proofs.Conflicts.{none-exactly}
 use Rattle.models.proofs.Walks.{walked-none, walked-found, walked-more, walked-all}
 use Rattle.models.proofs.model.conflict.first_conflict.Needs as need

@@ -1,9 +1,7 @@
-use mathlib.Core.Path.{_∙_, ap}
 use Prim.Native.Nat.{_≤_}
 use native.Mathlib.Omega.{arith}
 use borrow.Author.Needs.{needs}
 use lib.ListN.{length}
-use Rattle.models.specs.Sheets.{tree}
 use Rattle.models.proofs.Along.{along-none, checked-form, checked-more, checked-some, checked-value}
 use Rattle.models.proofs.Admits.{model-reads}
 use Rattle.models.proofs.summary.work.work_up.Needs as need

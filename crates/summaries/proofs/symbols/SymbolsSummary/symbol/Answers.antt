@@ -1,5 +1,4 @@
-use mathlib.Core.Path.{_≡_, _∙_}
-use mathlib.Core.Bool.{true}
+use mathlib.Core.Path.{_∙_}
 use Rattle.std.proofs.shelf.Tests.{le-leb, cond-true}
 use Rattle.summaries.proofs.Carried.{symbol-symbols}
 use Rattle.summaries.proofs.symbols.SymbolsSummary.symbol.Needs as need
