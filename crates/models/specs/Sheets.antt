@@ -52,24 +52,27 @@ symbolTaken (Count low high) ts = true
 symbolTaken Nonempty [] = true
 symbolTaken Nonempty (t ∷ ts) = hasSymbol t
 
--- what waits after a part, or the number of the first question that it fails
+-- questions 7 and 8: do enough parts wait, and does a nonempty part take one with a symbol
 abbrev pub joined : Option (List Tree) → Bool → Result (List Tree) ℕ
 joined None holds = Err 7
 joined (Some ts) holds = cond holds (Ok ts) (Err 8)
 
+-- questions 5 and 6 before them: is the kind known, and do the fields fit
 abbrev pub stepBy : Option Form → Bool → List Tree → Result (List Tree) ℕ
 stepBy None fit ts = Err 5
 stepBy (Some f) fit ts = cond fit (joined (join (shape f) ts) (symbolTaken f ts)) (Err 6)
 
+-- what waits after a part, or the number of the first question that it fails
 abbrev pub step : Part → List Tree → Result (List Tree) ℕ
 step p ts = stepBy (formOf p) (fieldsFit p) ts
 
--- the one tree that waits after all parts, n of them
+-- question 9, after all parts, n of them: does exactly one wait
 abbrev pub only : ℕ → List Tree → Result Tree Notice
 only n [] = Err (atPart 9 n)
 only n (t ∷ []) = Ok t
 only n (t ∷ u ∷ ts) = Err (atPart 9 n)
 
+-- the rest of the parts, or the fault of the one at place n
 abbrev pub goOn : ℕ → Result (List Tree) ℕ → (List Tree → Result Tree Notice) → Result Tree Notice
 goOn n (Ok ts) rest = rest ts
 goOn n (Err question) rest = Err (atPart question n)
@@ -79,13 +82,15 @@ abbrev pub reading : ℕ → List Part → List Tree → Result Tree Notice
 reading n [] ts = only n ts
 reading n (p ∷ ps) ts = goOn n (step p ts) (reading (n + 1) ps)
 
--- the answer of the check of a table
+-- the answer of the check of a table: question 4 of the whole, then those of its parts
 abbrev pub tableAnswer : List Part → Result Tree Notice
 tableAnswer ps = cond (leb 1 (length ps) && leb (length ps) 256) (reading 0 ps []) (Err (atSet 4 (length ps)))
 
+-- whether it is a model
 abbrev pub isModel : List Part → Bool
 isModel ps = isOk (tableAnswer ps)
 
+-- the tree of an answer, and d where there is none
 abbrev pub treeOr : Tree → Result Tree Notice → Tree
 treeOr d (Ok t) = t
 treeOr d (Err n) = d
