@@ -3,6 +3,15 @@
 ghost use mathlib.Core.Path.{_≡_};
 ghost use Rattle.parts.specs.Parts.{formOf, fieldsFit, takes as taken};
 
+/// The largest symbol.
+pub const LAST_SYMBOL: u32 = 63;
+
+/// The largest low and high of a count.
+pub const MOST_REPEATS: u32 = 10_000;
+
+/// How many parts a model has at most.
+pub const MOST_PARTS: usize = 256;
+
 /// One row of a sheet. Each field takes any number, so that a bad table can be
 /// written down and refused. docs/MODELS.md says what each kind means.
 #[derive(Clone, Copy)]
@@ -55,12 +64,12 @@ impl Part {
     {
         let uncounted = self.low == 0 && self.high == 0;
         match self.kind {
-            1 => self.symbol <= 63 && uncounted,
+            1 => self.symbol <= LAST_SYMBOL && uncounted,
             5 => {
                 self.symbol == 0
                     && 1 <= self.low
-                    && self.low <= 10_000
-                    && (self.high == 0 || self.low <= self.high && self.high <= 10_000)
+                    && self.low <= MOST_REPEATS
+                    && (self.high == 0 || self.low <= self.high && self.high <= MOST_REPEATS)
             }
             _ => self.symbol == 0 && uncounted,
         }

@@ -7,6 +7,7 @@ ghost use lib.Bits.{bitOr};
 ghost use lib.Dec.{leb};
 ghost use Rattle.std.specs.Orderings.{Decides};
 ghost use Rattle.parts.specs.Sets.{In};
+use crate::part::LAST_SYMBOL;
 
 /// A set of symbols: the bit worth 2^s stands for symbol s. A symbol above 63
 /// belongs to no set.
@@ -22,7 +23,7 @@ impl SymbolSet {
     pub fn of(symbol: u32) -> SymbolSet
         ensures { λ r. ⌜ r .bits ≡ cond (leb symbol 63) (2 ^ symbol) 0 ⌝ }
     {
-        if symbol <= 63 {
+        if symbol <= LAST_SYMBOL {
             SymbolSet { bits: 1 << symbol }
         } else {
             SymbolSet::EMPTY
@@ -32,7 +33,7 @@ impl SymbolSet {
     pub fn has(&self, symbol: u32) -> bool
         ensures { λ r. ⌜ Decides r (In (now (self .entry) .bits) symbol) ⌝ }
     {
-        symbol <= 63 && (self.bits >> symbol) & 1 == 1
+        symbol <= LAST_SYMBOL && (self.bits >> symbol) & 1 == 1
     }
 
     /// The symbols of either.

@@ -8,6 +8,7 @@ ghost use Rattle.summaries.specs.Empties.{EmptyCount};
 use models::model::Model;
 use models::summary::Summary;
 use models::summary::work::work_up;
+use parts::part::MOST_PARTS;
 
 /// Yes exactly where the empty message fits.
 #[derive(Clone, Copy)]
@@ -53,6 +54,6 @@ pub fn empty_fits(model: &Model<'_>) -> bool
     ensures exact { λ r. ⌜ Decides r (Fits (treeOf (now (model .entry))) []) ⌝ }
     ensures counts { λ _. ⌜ EmptyCount ⌝ }
 {
-    let mut work = [false; 256];
+    let mut work = [false; MOST_PARTS];
     work_up(&EmptyFits {}, model, &mut work)
 }

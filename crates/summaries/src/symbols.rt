@@ -5,6 +5,7 @@ ghost use Rattle.summaries.specs.SymbolsOf.{SymbolsAre, StandingAre};
 use models::model::Model;
 use models::summary::Summary;
 use models::summary::work::work_up;
+use parts::part::MOST_PARTS;
 use parts::symbols::SymbolSet;
 
 /// The symbols that messages have.
@@ -51,6 +52,6 @@ pub fn symbols_of(model: &Model<'_>) -> SymbolSet
     ensures exact { λ r. ⌜ SymbolsAre (treeOf (now (model .entry))) (r .bits) ⌝ }
     ensures standing { λ r. ⌜ StandingAre (treeOf (now (model .entry))) (r .bits) ⌝ }
 {
-    let mut work = [SymbolSet::EMPTY; 256];
+    let mut work = [SymbolSet::EMPTY; MOST_PARTS];
     work_up(&Symbols {}, model, &mut work)
 }

@@ -16,6 +16,7 @@ use crate::model::has_symbol::HasSymbol;
 use crate::model::has_symbol::HasSymbolSummary;
 use crate::summary::work::apply;
 use parts::part::Form;
+use parts::part::MOST_PARTS;
 use parts::part::Part;
 use parts::refusal::PartFault;
 use parts::refusal::Refusal;
@@ -75,7 +76,7 @@ fn check_parts(parts: &[Part]) -> Result<(), PartFault>
     requires { ⌜ length (now parts) ≤ 256 ⌝ }
     ensures { λ r. ⌜ Answers (reading 0 (now (parts .entry)) []) r ⌝ }
 {
-    let mut flags = [false; 256];
+    let mut flags = [false; MOST_PARTS];
     let mut waiting = Stack::new(&mut flags);
     for (place, part) in parts.iter().enumerate() {
         check_part(place, *part, &mut waiting)?;
@@ -93,7 +94,7 @@ fn check_parts(parts: &[Part]) -> Result<(), PartFault>
 fn check_table(parts: &[Part]) -> Result<(), Refusal>
     ensures { λ r. ⌜ tableAnswer (now (parts .entry)) ≡ answered r (tree (now (parts .entry))) ⌝ }
 {
-    if parts.is_empty() || parts.len() > 256 {
+    if parts.is_empty() || parts.len() > MOST_PARTS {
         return Err(Refusal::TableLength {
             length: parts.len(),
         });

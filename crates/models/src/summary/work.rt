@@ -12,6 +12,7 @@ ghost use Rattle.parts.specs.Stacks.{waiting, depth, room};
 use crate::model::Model;
 use crate::summary::Summary;
 use parts::part::Form;
+use parts::part::MOST_PARTS;
 use parts::stack::Stack;
 
 // Takes the values that the form takes, and lets its own wait. Where too few
@@ -53,7 +54,11 @@ pub(crate) fn apply<S: Summary>(summary: &S, form: Form, stack: &mut Stack<'_, S
 
 /// What a summary tells of a model. The working array is scratch: it comes
 /// back with whatever was left in it.
-pub fn work_up<S: Summary>(summary: &S, model: &Model<'_>, work: &mut [S::Value; 256]) -> S::Value
+pub fn work_up<S: Summary>(
+    summary: &S,
+    model: &Model<'_>,
+    work: &mut [S::Value; MOST_PARTS],
+) -> S::Value
     ensures { λ r. ⌜ means (now (summary .entry)) (treeOf (now (model .entry))) r ⌝ }
 {
     let mut stack = Stack::new(work);
