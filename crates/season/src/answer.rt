@@ -2,8 +2,9 @@
 ghost use mathlib.Core.Path.{_≡_};
 ghost use Rattle.models.specs.Checked.{partsOf, treeOf};
 ghost use Rattle.parts.specs.Refusals.{notice};
+ghost use Rattle.std.specs.declared.option.Option.the-variants.{Some};
 ghost use Rattle.season.specs.Answers.{FactsOf, RefusedBy, CheckAnswered, CallAnswered};
-ghost use Rattle.season.specs.Texts.{layerName, answered};
+ghost use Rattle.season.specs.Texts.{layerName, yesOrNo, listed, factsSaid, answered};
 use crate::script::Call;
 use models::model::Model;
 use models::model::check::Checked;
@@ -116,10 +117,12 @@ fn layer_name(layer: Layer) -> &'static str
 }
 
 impl fmt::Display for Facts as FactsDisplay {
+    ghost shown = { λ x. Some (factsSaid x) };
+
     fn fmt<W: fmt::Write>(&self, f: &mut fmt::Formatter<W>) -> fmt::Result {
         let parts = self.parts;
         let symbols = Listed(self.symbols);
-        let empty = if self.empty { "yes" } else { "no" };
+        let empty = yes_or_no(self.empty);
         write!(f, "{parts} parts, symbols {symbols}, empty {empty}, ")?;
         match self.conflict {
             Some(place) => write!(f, "conflict at {place}"),
@@ -128,11 +131,19 @@ impl fmt::Display for Facts as FactsDisplay {
     }
 }
 
+fn yes_or_no(answer: bool) -> &'static str
+    ensures { λ r. ⌜ now r ≡ yesOrNo answer ⌝ }
+{
+    if answer { "yes" } else { "no" }
+}
+
 /// A set of symbols, to be listed in braces.
 #[derive(Clone, Copy)]
 struct Listed(SymbolSet);
 
 impl fmt::Display for Listed as ListedDisplay {
+    ghost shown = { λ x. Some (listed (x .0 .bits)) };
+
     fn fmt<W: fmt::Write>(&self, f: &mut fmt::Formatter<W>) -> fmt::Result {
         let mut gap = "";
         f.write_str("{")?;
