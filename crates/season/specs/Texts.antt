@@ -51,6 +51,7 @@ factsSaid f =
     (listed (f .symbols .bits) ++ (codes ", empty " ++ (yesOrNo (f .empty) ++ (codes ", " ++ conflictSaid (f .conflict))))))
 
 -- what is said of an answer
-abbrev pub answered : Answer → Option (List ℕ)
-answered (Refused number layer place) = Some (codes "refused " ++ (decimal number ++ (codes ", " ++ (layerName layer ++ (codes ", place " ++ decimal place)))))
-answered (Model facts) = Some (factsSaid facts)
+abbrev pub answered : Answer → List ℕ
+answered (Refused number layer place) =
+    codes "refused " ++ (decimal number ++ (codes ", " ++ (layerName layer ++ (codes ", place " ++ decimal place))))
+answered (Model facts) = factsSaid facts

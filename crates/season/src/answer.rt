@@ -90,7 +90,7 @@ impl Answer {
 }
 
 pub impl fmt::Display for Answer as AnswerDisplay {
-    ghost shown = { λ a. answered a };
+    ghost shown = { λ a. Some (answered a) };
 
     fn fmt<W: fmt::Write>(&self, f: &mut fmt::Formatter<W>) -> fmt::Result {
         match self {
