@@ -3,14 +3,15 @@ use mathlib.Core.Path.{_≡_, refl, sym, ap, subst, _∙_}
 use mathlib.Core.Bool.{Bool, true, false, cond, _||_}
 use mathlib.Core.List.{List, [], _∷_, _++_}
 use mathlib.Core.Logic.{_⊎_, inl, inr, ⊎-elim}
-use Prim.Native.Nat.{ℕ, _+_}
+use Prim.Native.Nat.{ℕ, zero, suc, _+_, _≤_, _<_}
+use native.Mathlib.Omega.{arith}
 use lib.Dec.{eqb}
 use lib.ListN.{length}
 use Rattle.std.proofs.shelf.Lists.{append-assoc, append-nil, getD-at, take-at, length-push}
-use Rattle.std.proofs.shelf.Tests.{eqb-true, eq-eqb, cases-bool, both-ways, or-cases, or-parts, or-from, or-left, or-right, not-false, not-from-true, false≢true}
+use Rattle.std.proofs.shelf.Tests.{cases-eq, eqb-true, eq-eqb, cases-bool, both-ways, or-cases, or-parts, or-from, or-left, or-right, not-false, not-from-true, false≢true}
 use Rattle.std.specs.declared.option.Option.{Option}
 use Rattle.std.specs.declared.option.Option.the-variants.{Some, None}
-use Rattle.models.specs.Conflicts.{Apart, isSymbol, ConflictFree, isThe, met, clashes, clashAt, firstPlace, NoneExactly}
+use Rattle.models.specs.Conflicts.{Apart, isSymbol, ConflictFree, isThe, met, clashes, clashAt, firstPlace, FirstExactly, NoneExactly}
 use Rattle.models.specs.Trees.{Tree, Stands}
 use Rattle.models.specs.Trees.Tree.{empty, symbol, choice, sequence, interleave, count, nonempty}
 use Rattle.models.specs.Written.{subtrees}
@@ -159,4 +160,47 @@ none-exactly t =
     let whole = rw append-nil at (clear-is t [] []) in (
       (λ h. whole .0 (first .0 h) .0 .0),
       (λ h. first .1 (whole .1 ((h, λ s z. refl), tt))),
+    )
+
+-- the first place from i on at which a test holds
+first-is : (n i k : ℕ) (test : ℕ → Bool) → firstPlace n i test ≡ Some k
+    → (i ≤ k) × (k < i + n) × (test k ≡ true) × ((j : ℕ) → i ≤ j → j < k → test j ≡ false)
+first-is zero i k test e = absurd (some-none k (sym e))
+first-is (suc n) i k test e = go (first-is n (i + 1) k test) (test i) refl (λ b h. rw h at e)
+  where
+    go : (firstPlace n (i + 1) test ≡ Some k → (i + 1 ≤ k) × (k < i + 1 + n) × (test k ≡ true) × ((j : ℕ) → i + 1 ≤ j → j < k → test j ≡ false))
+        → (b : Bool) → test i ≡ b → ((c : Bool) → test i ≡ c → cond c (Some i) (firstPlace n (i + 1) test) ≡ Some k)
+        → (i ≤ k) × (k < i + suc n) × (test k ≡ true) × ((j : ℕ) → i ≤ j → j < k → test j ≡ false)
+    go next true h found =
+        let here : i ≡ k = let f = found true h in cc in
+        (omega arith, omega arith, subst (λ x. test x ≡ true) here h, (λ j low high. absurd (omega arith)))
+    go next false h found =
+        let (low, high, holds, before) = next (found false h) in (
+          omega arith,
+          omega arith,
+          holds,
+          (λ j a b. ⊎-elim (λ z. subst (λ x. test x ≡ false) z h) (λ z. before j (omega arith) b) (cases-eq i j)),
+        )
+
+is-first : (n i k : ℕ) (test : ℕ → Bool) → i ≤ k → k < i + n → test k ≡ true → ((j : ℕ) → i ≤ j → j < k → test j ≡ false) → firstPlace n i test ≡ Some k
+is-first zero i k test low high holds before = absurd (omega arith)
+is-first (suc n) i k test low high holds before = go (is-first n (i + 1) k test) (cases-eq i k)
+  where
+    go : (i + 1 ≤ k → k < i + 1 + n → test k ≡ true → ((j : ℕ) → i + 1 ≤ j → j < k → test j ≡ false) → firstPlace n (i + 1) test ≡ Some k)
+        → (i ≡ k) ⊎ (i ≡ k → ⊥) → cond (test i) (Some i) (firstPlace n (i + 1) test) ≡ Some k
+    go next (inl e) = let here : test i ≡ true = subst (λ x. test x ≡ true) (sym e) holds in rw here (ap Some e)
+    go next (inr ne) =
+        let here : test i ≡ false = before i (omega arith) (omega arith) in
+        rw here (next (omega arith) (omega arith) holds (λ j a b. before j (omega arith) b))
+
+pub first-exactly : FirstExactly
+first-exactly t k =
+    let n = length (subtrees t) in
+    let test = clashAt (subtrees t) in (
+      (λ e.
+          let (low, high, holds, before) = first-is n 0 k test e in
+          ((omega arith, holds), (λ j less (within, clash). both-ways (test j) (before j (omega arith) less) clash))),
+      (λ ((within, holds), none).
+          is-first n 0 k test (omega arith) (omega arith) holds
+          (λ j low less. ⊎-elim (λ z. absurd (none j less (omega arith, z))) (λ z. z) (cases-bool (test j)))),
     )

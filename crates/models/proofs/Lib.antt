@@ -3,6 +3,7 @@ pub mod Along
 pub mod Conflicts
 pub mod Inhabited
 pub mod Occurrences
+pub mod Refused
 pub mod Unlike
 pub mod Walks
 pub mod Written

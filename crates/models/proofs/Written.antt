@@ -24,7 +24,7 @@ use Rattle.models.specs.Sheets.{shape, join, step, reading, tableAnswer, isMod
 use Rattle.models.specs.Told.{AllFormed}
 use Rattle.models.specs.Trees.{Tree, Bounds, Formed, Inhabited}
 use Rattle.models.specs.Trees.Tree.{empty, symbol, choice, sequence, interleave, count, nonempty}
-use Rattle.models.specs.Written.{subtrees, part, partOf, sheet, SheetOf, TakenExactly}
+use Rattle.models.specs.Written.{subtrees, part, partOf, sheet, laid, SheetOf, TakenExactly}
 use Rattle.models.proofs.Inhabited.{messages}
 use Rattle.models.proofs.Admits.{stepped, step-made, went-on, only-made}
 use Rattle.models.proofs.Unlike.{err-ok}
@@ -53,17 +53,12 @@ part-of-form p Interleave e h = same-part p 4 0 0 0 (grind (arith, tells)) (grin
 part-of-form p (Count low high) e h = same-part p 5 0 low high (grind (arith, tells)) (grind (arith, tells)) (grind (arith, tells)) (grind (arith, tells))
 part-of-form p Nonempty e h = same-part p 6 0 0 0 (grind (arith, tells)) (grind (arith, tells)) (grind (arith, tells)) (grind (arith, tells))
 
--- the sheets of waiting trees, the last first, one after the other
-laid : List Tree → List Part
-laid [] = []
-laid (t ∷ ts) = laid ts ++ sheet t
-
 LaidIn : Option (List Tree) → List Part → Type 0
 LaidIn None ps = Unit {0}
 LaidIn (Some us) ps = laid us ≡ ps
 
 join-laid : (f : Form) (ts : List Tree) → LaidIn (join (shape f) ts) (laid ts ++ (formPart f ∷ []))
-unfolding formPart laid LaidIn
+unfolding formPart LaidIn
 join-laid Empty ts = refl
 join-laid (Symbol s) ts = refl
 join-laid Choice [] = tt
@@ -80,7 +75,7 @@ join-laid (Count low high) (t ∷ ts) = simp (map-append, append-assoc)
 join-laid Nonempty [] = tt
 join-laid Nonempty (t ∷ ts) = simp (map-append, append-assoc)
 
-step-laid : (p : Part) (ts us : List Tree) → step p ts ≡ Ok us → laid us ≡ laid ts ++ (p ∷ [])
+pub step-laid : (p : Part) (ts us : List Tree) → step p ts ≡ Ok us → laid us ≡ laid ts ++ (p ∷ [])
 unfolding LaidIn
 step-laid p ts us e =
     let (f, named, fit, made, taken) = stepped (formOf p) (fieldsFit p) ts us e in
@@ -89,7 +84,6 @@ step-laid p ts us e =
 
 -- what parts read to is the tree whose sheet they finish
 reading-laid : (n : ℕ) (ps : List Part) (ts : List Tree) (t : Tree) → reading n ps ts ≡ Ok t → AllFormed ts → (laid ts ++ ps ≡ sheet t) × Formed t
-unfolding laid
 reading-laid n [] ts t e formed =
     let one : ts ≡ t ∷ [] = only-made n ts t e in
     (rw (one, append-nil), subst AllFormed one formed .0)
@@ -101,7 +95,7 @@ reading-laid n (p ∷ ps) ts t e formed =
     (sym (append-assoc (laid ts) (p ∷ []) ps) ∙ ap (λ xs. xs ++ ps) (sym (step-laid p ts us made)) ∙ all, tree-formed)
 
 -- and the sheet of a well-formed tree reads to it, whatever waits before and follows after
-Reads : Tree → Type 0
+abbrev pub Reads : Tree → Type 0
 Reads t = (n : ℕ) (rest : List Part) (ts : List Tree) → reading n (sheet t ++ rest) ts ≡ reading (n + length (sheet t)) rest (t ∷ ts)
 
 one-part : (n : ℕ) (p : Part) (rest : List Part) (ts us : List Tree) → step p ts ≡ Ok us → reading n (p ∷ rest) ts ≡ reading (n + 1) rest us
@@ -109,7 +103,6 @@ one-part n p rest ts us e = rw e
 
 pair-reads : (l r u : Tree) → subtrees u ≡ subtrees l ++ (subtrees r ++ (u ∷ [])) → ((ts : List Tree) → step (partOf u) (r ∷ l ∷ ts) ≡ Ok (u ∷ ts))
     → Reads l → Reads r → Reads u
-unfolding Reads
 pair-reads l r u e made f g n rest ts =
     let whole : sheet u ≡ sheet l ++ (sheet r ++ (partOf u ∷ [])) = ap (map partOf) e ∙ simp map-append in
     let order : sheet u ++ rest ≡ sheet l ++ (sheet r ++ (partOf u ∷ rest)) = rw whole (simp append-assoc) in
@@ -119,7 +112,6 @@ pair-reads l r u e made f g n rest ts =
     ∙ ap (λ k. reading k rest (u ∷ ts)) long
 
 single-reads : (t u : Tree) → subtrees u ≡ subtrees t ++ (u ∷ []) → ((ts : List Tree) → step (partOf u) (t ∷ ts) ≡ Ok (u ∷ ts)) → Reads t → Reads u
-unfolding Reads
 single-reads t u e made f n rest ts =
     let whole : sheet u ≡ sheet t ++ (partOf u ∷ []) = ap (map partOf) e ∙ simp map-append in
     let order : sheet u ++ rest ≡ sheet t ++ (partOf u ∷ rest) = rw whole (simp append-assoc) in
@@ -132,8 +124,7 @@ bounds-fit : (low high : ℕ) → Bounds low high → bounded low high ≡ true
 bounds-fit low high (a, b, inl e) = grind (arith, tells)
 bounds-fit low high (a, b, inr (c, d)) = grind (arith, tells)
 
-sheet-reads : (t : Tree) → Formed t → Reads t
-unfolding Reads
+pub sheet-reads : (t : Tree) → Formed t → Reads t
 sheet-reads empty f = λ n rest ts. refl
 sheet-reads (symbol s) f = λ n rest ts. one-part n (part 1 s 0 0) rest ts (symbol s ∷ ts) (let fit = le-leb s 63 f in rw fit)
 sheet-reads (choice l r) f = pair-reads l r (choice l r) refl (λ ts. refl) (sheet-reads l (f .0)) (sheet-reads r (f .1))
@@ -158,7 +149,6 @@ answer-ok true o n t e = (refl, e)
 answer-ok false o n t e = absurd (err-ok _ _ e)
 
 pub taken-exactly : TakenExactly
-unfolding laid Reads
 taken-exactly ps t = (
   (λ e.
       let (within, read) = answer-ok (leb 1 (length ps) && leb (length ps) 256) (reading 0 ps []) (atSet 4 (length ps)) t e in

@@ -2,7 +2,7 @@
 use mathlib.Core.Path.{_≡_}
 use mathlib.Core.Bool.{Bool, true, false, cond, not, _||_}
 use mathlib.Core.List.{List, [], _∷_}
-use Prim.Native.Nat.{ℕ, zero, suc, _+_}
+use Prim.Native.Nat.{ℕ, zero, suc, _+_, _<_}
 use lib.Dec.{eqb}
 use lib.ListN.{length, getD, take}
 use Rattle.std.specs.declared.option.Option.{Option}
@@ -70,6 +70,17 @@ firstPlace (suc n) k test = cond (test k) (Some k) (firstPlace n (k + 1) test)
 -- the place of the first conflict
 abbrev pub firstConflict : Tree → Option ℕ
 firstConflict t = firstPlace (length (subtrees t)) 0 (clashAt (subtrees t))
+
+-- the part at place k is a conflict
+abbrev pub ConflictAt : Tree → ℕ → Type 0
+ConflictAt t k = (k < length (subtrees t)) × (clashAt (subtrees t) k ≡ true)
+
+-- the place is that of a conflict, and there is none before it
+abbrev pub FirstAt : Tree → ℕ → Type 0
+FirstAt t k = ConflictAt t k × ((j : ℕ) → j < k → ConflictAt t j → ⊥)
+
+abbrev pub FirstExactly : Type 0
+FirstExactly = (t : Tree) (k : ℕ) → (firstConflict t ≡ Some k → FirstAt t k) × (FirstAt t k → firstConflict t ≡ Some k)
 
 -- there is none exactly in a conflict-free model
 abbrev pub NoneExactly : Type 0

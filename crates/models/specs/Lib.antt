@@ -5,5 +5,6 @@ pub mod Told
 pub mod Checked
 pub mod Checking
 pub mod Written
+pub mod Refused
 pub mod Conflicts
 pub mod Walk

@@ -39,6 +39,11 @@ sheet t = map partOf (subtrees t)
 abbrev pub SheetOf : List Part → Tree → Type 0
 SheetOf ps t = (ps ≡ sheet t) × Formed t × (length ps ≤ 256)
 
+-- the sheets of trees one after the other; the last tree stands first in the list
+abbrev pub laid : List Tree → List Part
+laid [] = []
+laid (t ∷ ts) = laid ts ++ sheet t
+
 -- a table is taken, with a tree, exactly when it is the sheet of that tree
 abbrev pub TakenExactly : Type 0
 TakenExactly = (ps : List Part) (t : Tree) → (tableAnswer ps ≡ Ok t → SheetOf ps t) × (SheetOf ps t → tableAnswer ps ≡ Ok t)

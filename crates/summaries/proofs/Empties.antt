@@ -38,10 +38,10 @@ empty-joined P (suc j) h q = followed-empty P (Joined P j) q .0
 
 -- the empty message fits a count exactly when it fits the part counted
 pub empty-count : EmptyCount
-empty-count t low high b = (
+empty-count t low high some end = (
   (λ (j, w, q). empty-joined (Fits t) j (omega arith) q),
-  (λ p. (low, between-low low high b, joined-empty (Fits t) p low)),
+  (λ p. (low, (omega arith, end), joined-empty (Fits t) p low)),
 )
 
 pub count-empty : (v : Bool) (t : Tree) (low high : ℕ) → Bounds low high → Decides v (Fits t []) → Decides v (Fits (count t low high) [])
-count-empty v t low high b d = let e = empty-count t low high b in decides-like v (e .1) (e .0) d
+count-empty v t low high b d = let e = empty-count t low high (b .0) (between-low low high b .1) in decides-like v (e .1) (e .0) d

@@ -6,6 +6,7 @@ ghost use Prim.Native.Nat.{_+_, _<_, _≤_};
 ghost use lib.ListN.{length};
 ghost use Rattle.models.specs.Checked.{partsOf, treeOf, partsKept, told as answered};
 ghost use Rattle.models.specs.Checking.{flags, flagTaken, Admitted, Answers};
+ghost use Rattle.models.specs.Refused.{RefusedExactly};
 ghost use Rattle.models.specs.Sheets.{reading, tableAnswer, tree, step};
 ghost use Rattle.models.specs.Told.{Told, AllFormed};
 ghost use Rattle.models.specs.Trees.{Tree, Inhabited};
@@ -107,7 +108,8 @@ fn check_table(parts: &[Part]) -> Result<(), Refusal>
 pub fn check<'a>(parts: &'a [Part]) -> Checked<'a>
     ensures answer { λ r. ⌜ tableAnswer (now (parts .entry)) ≡ answered (r .answer) (treeOf (r .model)) ⌝ }
     ensures parts { λ r. ⌜ partsOf (r .model) ≡ partsKept (r .answer) (now (parts .entry)) ⌝ }
-    ensures law { λ _. ⌜ TakenExactly ⌝ }
+    ensures taken { λ _. ⌜ TakenExactly ⌝ }
+    ensures refused { λ _. ⌜ RefusedExactly ⌝ }
     ensures messages { λ r. ⌜ Inhabited (treeOf (r .model)) ⌝ }
 {
     let answer = check_table(parts);

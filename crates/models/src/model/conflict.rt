@@ -2,7 +2,7 @@
 
 ghost use mathlib.Core.Path.{_≡_};
 ghost use Rattle.models.specs.Checked.{treeOf};
-ghost use Rattle.models.specs.Conflicts.{firstConflict, NoneExactly};
+ghost use Rattle.models.specs.Conflicts.{firstConflict, FirstExactly, NoneExactly};
 ghost use Rattle.models.specs.Walk.{Clash, ownBits};
 use crate::model::Model;
 use parts::part::Form;
@@ -34,7 +34,8 @@ fn own_symbol(form: Option<Form>) -> SymbolSet
 /// part, or a symbol already met; none exactly where the model is conflict-free.
 pub fn first_conflict(model: &Model<'_>) -> Option<usize>
     ensures first { λ r. ⌜ r ≡ firstConflict (treeOf (now (model .entry))) ⌝ }
-    ensures law { λ _. ⌜ NoneExactly ⌝ }
+    ensures place { λ _. ⌜ FirstExactly ⌝ }
+    ensures none { λ _. ⌜ NoneExactly ⌝ }
 {
     let mut seen = SymbolSet::EMPTY;
     // what a count takes stands right before it

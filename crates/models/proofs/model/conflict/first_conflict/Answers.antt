@@ -1,4 +1,4 @@
-use Rattle.models.proofs.Conflicts.{none-exactly}
+use Rattle.models.proofs.Conflicts.{first-exactly, none-exactly}
 use Rattle.models.proofs.Walks.{walked-none, walked-found, walked-more, walked-all}
 use Rattle.models.proofs.model.conflict.first_conflict.Needs as need
 
@@ -10,7 +10,8 @@ returns-then-clashes c = record {
   first =
       rw (← c .parts-part-items .ensures .same)
       (walked-found _ (c .parts-part-items .ensures .checked) _ _ _ _ _ (c .loop-place .inv) (c .loop-place-test .taken) (rw (c .form-form .ensures) at (c .clashes .ensures)) (c .if-clashes .taken));
-  law = none-exactly;
+  place = first-exactly;
+  none = none-exactly;
 }
 
 pub loop-place-again : need.loop-place-again
@@ -23,5 +24,6 @@ returns c = record {
   first =
       rw (← c .parts-part-items .ensures .same)
       (walked-all _ (c .parts-part-items .ensures .checked) _ _ _ (c .loop-place-test .left) (c .loop-place .inv));
-  law = none-exactly;
+  place = first-exactly;
+  none = none-exactly;
 }
