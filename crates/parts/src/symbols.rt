@@ -1,7 +1,7 @@
 //! Sets of symbols.
 
-ghost use Rattle.std.specs.Prelude.{◌≡◌, Decides, bit_or};
-ghost use Rattle.parts.specs.Sets.{In, only};
+ghost use Rattle.std.specs.Prelude.{◌≡◌, ◌^◌, if◌then◌else◌, Decides, bit_or, nat_le};
+ghost use Rattle.parts.specs.Sets.{In};
 
 use crate::part::LAST_SYMBOL;
 
@@ -17,7 +17,7 @@ impl SymbolSet {
 
     /// The set of one symbol, empty where that is above 63.
     pub fn of(symbol: u32) -> SymbolSet
-        ensures { result.bits ≡ only symbol }
+        ensures { result.bits ≡ (if nat_le symbol 63 then 2 ^ symbol else 0) }
     {
         if symbol <= LAST_SYMBOL {
             SymbolSet { bits: 1 << symbol }

@@ -1,6 +1,9 @@
 //! The calls of a script: what a word writes (`read`), the question that words
 //! ask (`question`), which call a line makes (`call`), or what is wrong with it
 //! (`error`).
+
+#![tactic(auto)]
+
 pub mod call;
 pub mod error;
 pub mod question;

@@ -1,1 +1,4 @@
-pub mod Failures
+pub mod Answers
+pub mod Lines
+pub mod Reads
+pub mod Texts

@@ -1,12 +1,15 @@
 //! Answers the calls of a script, one to a line.
-mod failure;
-mod words;
 
-use answers::answer::answer_call;
-use failure::Failure;
-use script::call::Call;
-use std::{env, fs, io};
-use words::Words;
+#![tactic(auto)]
+
+mod answer;
+mod read;
+mod script;
+
+use script::{Call, Words};
+use std::alloc::AllocError;
+use std::process::ExitCode;
+use std::{env, fmt, fs, io};
 
 const USAGE: &str = "\
 usage: season [FILE]
@@ -16,33 +19,66 @@ prints an answer for each call. A script has one call to a line; empty lines
 and lines that begin with # are passed over.
 
 calls:
-  check PART..            say whether the parts are a model, and what it takes;
-                          a part is written kind:symbol:low:high in decimal
-  ask QUESTION : PART..   answer a question about all messages of the model
+  check PART..    say whether the parts are a model, and what it takes;
+                  a part is written kind:symbol:low:high in decimal
 
-questions:
-  every SET               has every message a symbol of the set, and has every
-                          nonempty one; a set is written 0,1 or, if empty, -
-  occurs SYMBOL           how often does it occur in a message that has it, at
-                          the fewest, and in any message, at the most
-  brings SET SET          has every message with a symbol of the first set one
-                          of the second
-  after SYMBOL SYMBOL     has some message the first symbol after the second
-
-examples:
+example:
   check 1:0:0:0 1:1:0:0 3:0:0:0
-  ask after 0 1 : 1:0:0:0 1:1:0:0 3:0:0:0
 
 A line that is no call ends the run with a message and status 1.
 ";
 
-fn main(rt: HostRuntime) -> Result<(), Failure> {
-    match run(&rt) {
-        Ok(()) => Ok(()),
-        Err(failure) => {
-            eprintln!(rt; "{failure}")?;
-            Err(failure)
+/// Why a run ended early. The reason of a bad line is text, since it outlives the script.
+#[derive(Drop)]
+enum Failure {
+    TooManyArguments,
+    BadFile { path: String, error: io::Error },
+    BadInput { error: io::Error },
+    BadLine { number: usize, reason: String },
+    Io { error: io::Error },
+}
+
+impl From<io::Error> for Failure {
+    fn from(error: io::Error) -> Failure {
+        Failure::Io { error }
+    }
+}
+
+impl From<AllocError> for Failure {
+    fn from(error: AllocError) -> Failure {
+        let error = error.into();
+        Failure::Io { error }
+    }
+}
+
+impl fmt::Display for Failure {
+    fn fmt<W: fmt::Write>(&self, f: &mut fmt::Formatter<W>) -> fmt::Result {
+        match self {
+            Failure::TooManyArguments => {
+                write!(f, "expected one argument at most, the file of a script")
+            }
+            Failure::BadFile { path, error } => {
+                write!(f, "expected a script of UTF-8 text in {path}: {error}")
+            }
+            Failure::BadInput { error } => {
+                write!(
+                    f,
+                    "expected a script of UTF-8 text on standard input: {error}"
+                )
+            }
+            Failure::BadLine { number, reason } => write!(f, "line {number}: {reason}"),
+            Failure::Io { error } => write!(f, "{error}"),
         }
+    }
+}
+
+fn main(rt: HostRuntime) -> ExitCode {
+    match run(&rt) {
+        Ok(()) => ExitCode::SUCCESS,
+        Err(failure) => match eprintln!(rt; "{failure}") {
+            // a message that cannot be written changes nothing in the status
+            Ok(()) | Err(_) => ExitCode::FAILURE,
+        },
     }
 }
 
@@ -81,7 +117,7 @@ fn answer_script(rt: &HostRuntime, text: &str) -> Result<(), Failure> {
             Ok(None) => {}
             Ok(Some(call)) => {
                 let words = Words(line);
-                let answer = answer_call(&call);
+                let answer = call.answer();
                 println!(rt; "{words}: {answer}")?;
             }
             Err(error) => {

@@ -1,4 +1,7 @@
 //! The summaries of a model: each tells something exact about the messages that fit.
+
+#![tactic(auto)]
+
 pub mod after;
 pub mod brings;
 pub mod empty;

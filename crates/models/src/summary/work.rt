@@ -18,7 +18,7 @@ pub(crate) fn apply<S: Summary>(summary: &S, form: Form, stack: &mut Stack<'_, S
     requires { depth stack.old < room stack.old }
     ensures grows { depth stack.new ≤ depth stack.old + 1 }
     ensures kept { room stack.new ≡ room stack.old }
-    ensures told { (ts us : List Tree) → Told (means summary.now) ts (waiting stack.old) → join (shape form) ts ≡ Some us → AllFormed us → Told (means summary.now) us (waiting stack.new) }
+    ensures told { (ts us : List Tree) → Told (S.means summary.now) ts (waiting stack.old) → join (shape form) ts ≡ Some us → AllFormed us → Told (S.means summary.now) us (waiting stack.new) }
 {
     let made = match form {
         Form::Empty => summary.empty(),
@@ -56,7 +56,7 @@ pub fn work_up<S: Summary>(
     model: &Model<'_>,
     work: &mut [S::Value; MOST_PARTS],
 ) -> S::Value
-    ensures { means summary.now (tree_of model.now) result }
+    ensures { S.means summary.now (tree_of model.now) result }
 {
     let mut stack = Stack::new(work);
     for part in model.parts() {

@@ -19,6 +19,6 @@ returns-in-Some-None c s l r formed_l formed_r f g =
 
 pub returns-in-Some-Some : goal.returns-in-Some-Some
 returns-in-Some-Some c s l r formed_l formed_r f g =
-    for_both s l r (λ u. FewestIs s u (Some c.fewest-of-both.result))
+    for_both s l r (λ u. FewestIs s u (Some c.fewest_of_both.result))
     (λ u mix. both_fewest s l r u mix formed_l formed_r c.args.left c.args.right _ _ _
-    c.in-Some-Some.is-0 c.in-Some-Some.is-1 c.fewest-of-both.ensures f g)
+    c.in-Some-Some.is-0 c.in-Some-Some.is-1 c.fewest_of_both.ensures f g)

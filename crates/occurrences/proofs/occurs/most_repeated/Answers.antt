@@ -12,14 +12,14 @@ returns-then-high-gt0 c s low t formed h =
     let (n, e, most) = subst (MostIs s t) c.in-Ends.is h in
     (c.args.high * n, c.times.ensures n c.if-high-gt0.true e, most_repeated_lem s t low c.args.high n formed.1 c.if-high-gt0.true most)
 
-pub returns-then-is-zero : goal.returns-then-is-zero
-returns-then-is-zero c s low t formed h =
+pub returns-then-is_zero : goal.returns-then-is_zero
+returns-then-is_zero c s low t formed h =
     let (n, e, most) = subst (MostIs s t) c.in-Ends.is h in
-    let none : n ≡ 0 = (c.is-zero.ensures n e).0 c.if-is-zero.true in
+    let none : n ≡ 0 = (c.is_zero.ensures n e).0 c.if-is_zero.true in
     (n, e, none_repeated s t low c.args.high n none formed.1 most)
 
-pub returns-else-is-zero : goal.returns-else-is-zero
-returns-else-is-zero c s low t formed h =
+pub returns-else-is_zero : goal.returns-else-is_zero
+returns-else-is_zero c s low t formed h =
     let (n, e, most) = subst (MostIs s t) c.in-Ends.is h in
-    let ne : n ≡ 0 → ⊥ = not_from_Decides _ (c.is-zero.ensures n e) c.if-is-zero.false in
+    let ne : n ≡ 0 → ⊥ = not_from_Decides _ (c.is_zero.ensures n e) c.if-is_zero.false in
     some_repeated s t low c.args.high n (omega arith) (omega arith) most

@@ -5,8 +5,8 @@ use Rattle.std.proofs.ResultArms.{chosen}
 use Rattle.std.proofs.lemmas.Result.{err_from_is_err_and}
 use Rattle.script.proofs.call.all_parts.Goals as goal
 
-pub returns-in-default : goal.returns-in-default
-returns-in-default c =
+pub returns-in_default : goal.returns-in_default
+returns-in_default c =
     let old = c.loop-word.invariant in
     let word = c.in-Some.word in
     let first = first_of _ word.now _ c.in-Some.ensures.steps in
@@ -19,16 +19,16 @@ returns-in-default c =
       ap (λ n. NotPart n word) count,
       begins_more _ old.seen _ _ _ old.begins first,
       old.written,
-      sym c.in-default.ensures,
+      sym c.in_default.ensures,
     )
 
 pub loop-word-preserved : goal.loop-word-preserved
 loop-word-preserved c =
-    let pushed = chosen _ _ _ _ c.push.ensures.items (ap is_ok c.in-ok-push.was) in
+    let pushed = chosen _ _ _ _ c.push.ensures.items (ap is_ok c.in_ok-push.was) in
     let first = first_of _ c.in-Some.word.now _ c.in-Some.ensures.steps in
     subst (Sofar _ _) (sym pushed) (one_more c.loop-word.invariant _ _ _ first (sym c.in-Some-part.ensures))
 
-pub returns-in-err-push : goal.returns-in-err-push
-returns-in-err-push c =
-    let p = err_from_is_err_and c.from-residual.result c.from-residual.ensures.1 in
+pub returns-in_err-push : goal.returns-in_err-push
+returns-in_err-push c =
+    let p = err_from_is_err_and c.from_residual.result c.from_residual.ensures.1 in
     rw (p.1, p.2) (inl refl)

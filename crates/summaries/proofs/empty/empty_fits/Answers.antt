@@ -2,4 +2,4 @@ use Rattle.summaries.proofs.Empties.{empty_count}
 use Rattle.summaries.proofs.empty.empty_fits.Goals as goal
 
 pub returns : goal.returns
-returns c = record { exact = c.work-up.ensures; counts = empty_count }
+returns c = record { exact = c.work_up.ensures; counts = empty_count }

@@ -4,6 +4,6 @@ use Rattle.summaries.proofs.symbols.symbols_of.Goals as goal
 
 pub returns : goal.returns
 returns c = record {
-  exact = c.work-up.ensures;
-  standing = standing_are _ _ (model_sheet c.args.model.now.parts.now c.args.model.now.checked).1 c.work-up.ensures;
+  exact = c.work_up.ensures;
+  standing = standing_are _ _ (model_sheet c.args.model.now.parts.now c.args.model.now.checked).1 c.work_up.ensures;
 }

@@ -15,15 +15,15 @@ whole f empty conflict e h = rw (e, h) (regroup (decimal f.parts) (codes " parts
 pub returns-in-Some-clause-writes : goal.returns-in-Some-clause-writes
 returns-in-Some-clause-writes g c plain ok =
     let took = g.W.Write.write_str_gives in
-    let start = c.write.ensures.writes plain (ap is_ok c.in-ok-write.was) in
+    let start = c.write.ensures.writes plain (ap is_ok c.in_ok-write.was) in
     let end = c.write-in-Some.ensures.writes start.plain ok in
-    let same = whole c.args.self.now _ _ c.yes-or-no-empty.ensures (ap conflict_said (sym c.in-Some.is)) in
+    let same = whole c.args.self.now _ _ c.yes_or_no-empty.ensures (ap conflict_said (sym c.in-Some.is)) in
     has_written_of_eq took _ _ _ _ same (has_written_append took _ _ _ _ _ start end)
 
 pub returns-in-None-clause-writes : goal.returns-in-None-clause-writes
 returns-in-None-clause-writes g c plain ok =
     let took = g.W.Write.write_str_gives in
-    let start = c.write.ensures.writes plain (ap is_ok c.in-ok-write.was) in
+    let start = c.write.ensures.writes plain (ap is_ok c.in_ok-write.was) in
     let end = c.write-in-None.ensures.writes start.plain ok in
-    let same = whole c.args.self.now _ _ c.yes-or-no-empty.ensures (ap conflict_said (sym c.in-None.is)) in
+    let same = whole c.args.self.now _ _ c.yes_or_no-empty.ensures (ap conflict_said (sym c.in-None.is)) in
     has_written_of_eq took _ _ _ _ same (has_written_append took _ _ _ _ _ start end)

@@ -29,7 +29,7 @@ loop-symbol-preserved g c =
       gap_more seen n ∙ ap gap_after (sym more),
       λ plain.
           let before = inv.2 plain in
-          let one = c.write.ensures.writes before.plain (ap is_ok c.in-ok-write.was) in
+          let one = c.write.ensures.writes before.plain (ap is_ok c.in_ok-write.was) in
           has_written_of_eq took _ _ _ _ text (has_written_append took _ _ _ _ _ before one),
     )
 
@@ -38,7 +38,7 @@ returns-clause-writes g c plain ok =
     let took = g.W.Write.write_str_gives in
     let bits = c.args.self.now.0.bits in
     let all : c.loop-symbol.symbol-counter ≡ 64 = omega arith in
-    let opened = c.write-str.ensures.writes plain (ap is_ok c.in-ok-write-str.was) in
+    let opened = c.write_str.ensures.writes plain (ap is_ok c.in_ok-write_str.was) in
     let middle = has_written_of_eq took _ _ _ _ (ap (λ n. row (symbols_below n bits)) all) (c.loop-symbol.invariant.2 opened.plain) in
-    let closed = c.write-str-2.ensures.writes middle.plain ok in
+    let closed = c.write_str-2.ensures.writes middle.plain ok in
     has_written_append took _ _ _ _ _ opened (has_written_append took _ _ _ _ _ middle closed)

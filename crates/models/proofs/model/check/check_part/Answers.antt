@@ -9,6 +9,6 @@ returns c = record {
   kept = search rules;
   admitted = λ ts tell formed.
       admit_ok c.args.part c.in-Some.form c.args.place ts _ _ (sym c.in-Some.ensures) tell
-      (sym c.if-not-fields-fit.ensures) (omega arith) (sym (c.if-not-symbol-taken.ensures ∙ ap (flag_taken c.in-Some.form) c.last.ensures)) formed
+      (sym c.if-not-fields_fit.ensures) (omega arith) (sym (c.if-not-symbol_taken.ensures ∙ ap (flag_taken c.in-Some.form) c.last.ensures)) formed
       (λ us e f. c.apply.ensures.told ts us tell e f);
 }

@@ -5,18 +5,18 @@ use Rattle.models.proofs.Along.{along_more, along_next, along_all}
 use Rattle.models.proofs.Admits.{admitted_trees, admitted_fault, told_length, only_one, only_other}
 use Rattle.models.proofs.model.check.check_parts.Goals as goal
 
-pub returns-in-err-check-part : goal.returns-in-err-check-part
-returns-in-err-check-part c =
+pub returns-in_err-check_part : goal.returns-in_err-check_part
+returns-in_err-check_part c =
     let a = c.loop-place.invariant.2 in
-    let p = err_from_is_err_and c.from-residual.result c.from-residual.ensures.1 in
-    let fault = admitted_fault _ _ _ _ _ (c.in-err-check-part.ensures.admitted a.trees a.tell a.formed) in
+    let p = err_from_is_err_and c.from_residual.result c.from_residual.ensures.1 in
+    let fault = admitted_fault _ _ _ _ _ (c.in_err-check_part.ensures.admitted a.trees a.tell a.formed) in
     let all = sym fault ∙ along_next _ _ _ _ a _ c.loop-place-test.true in
     rw (p.1, p.2, ← all)
 
 pub loop-place-preserved : goal.loop-place-preserved
 loop-place-preserved c =
     let a = c.loop-place.invariant.2 in
-    let (us, made, tell, formed) = admitted_trees _ _ _ (c.in-ok-check-part.ensures.admitted a.trees a.tell a.formed) in
+    let (us, made, tell, formed) = admitted_trees _ _ _ (c.in_ok-check_part.ensures.admitted a.trees a.tell a.formed) in
     (omega arith, omega arith, along_more _ _ _ _ a _ _ us c.loop-place-test.true made tell formed)
 
 pub returns-then-len-eq1 : goal.returns-then-len-eq1

@@ -16,7 +16,7 @@ returns-then-clashes c = record {
 
 pub loop-place-preserved : goal.loop-place-preserved
 loop-place-preserved c =
-    rw (c.union-seen.ensures, c.own-symbol.ensures, c.form-form.ensures)
+    rw (c.union-seen.ensures, c.own_symbol.ensures, c.form-form.ensures)
     (walked_more _ c.parts-part-items.ensures.checked _ _ _ _ _ c.loop-place.invariant c.loop-place-test.true (rw c.form-form.ensures at c.clashes.ensures) c.if-clashes.false)
 
 pub returns : goal.returns

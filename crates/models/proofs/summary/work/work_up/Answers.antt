@@ -7,7 +7,7 @@ pub loop-part-init : goal.loop-part-init
 loop-part-init g c = (search rules, search rules, rw c.new-stack.ensures.empty (along_none _ _))
 
 pub unreachable-requires : goal.unreachable-requires
-unreachable-requires g c = checked_form _ _ c.parts-part-items.ensures.checked _ _ c.loop-part.invariant.2 _ c.loop-part-test.true c.in-default.ensures
+unreachable-requires g c = checked_form _ _ c.parts-part-items.ensures.checked _ _ c.loop-part.invariant.2 _ c.loop-part-test.true c.in_default.ensures
 
 pub apply-requires : goal.apply-requires
 apply-requires g c =
@@ -20,9 +20,9 @@ loop-part-preserved g c = (
   checked_more _ _ c.parts-part-items.ensures.checked _ _ c.loop-part.invariant.2 _ _ _ c.loop-part-test.true c.in-Some.ensures c.apply.ensures.told,
 )
 
-pub unreachable-requires-in-default-pop : goal.unreachable-requires-in-default-pop
-unreachable-requires-in-default-pop g c =
-    checked_some _ _ c.parts-part-items.ensures.checked _ _ c.loop-part.invariant.2 c.loop-part-test.false c.in-default-pop.ensures.0
+pub unreachable-requires-in_default-pop : goal.unreachable-requires-in_default-pop
+unreachable-requires-in_default-pop g c =
+    checked_some _ _ c.parts-part-items.ensures.checked _ _ c.loop-part.invariant.2 c.loop-part-test.false c.in_default-pop.ensures.0
 
 pub returns : goal.returns
 returns g c =

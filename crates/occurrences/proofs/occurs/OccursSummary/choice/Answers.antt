@@ -2,7 +2,7 @@ use Rattle.occurrences.proofs.occurs.OccursSummary.choice.Goals as goal
 
 pub returns : goal.returns
 returns c t u formed f g = (
-  c.fewest-of-either.ensures _ t u f.0 g.0,
-  c.most-of-either.ensures _ t u f.1 g.1,
+  c.fewest_of_either.ensures _ t u f.0 g.0,
+  c.most_of_either.ensures _ t u f.1 g.1,
   (rw c.every.ensures at c.choice.ensures) t u formed f.2 g.2,
 )

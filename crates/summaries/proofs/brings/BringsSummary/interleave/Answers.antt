@@ -4,4 +4,4 @@ use Rattle.summaries.proofs.brings.BringsSummary.interleave.Goals as goal
 
 pub returns : goal.returns
 returns c l r formed f g =
-    (rw c.side-by-side.ensures (sides_bring _ _ interleave_sides l r _ _ _ _ f.0 g.0 f.1.0 g.1.0), c.interleave.ensures l r formed f.1 g.1)
+    (rw c.side_by_side.ensures (sides_bring _ _ interleave_sides l r _ _ _ _ f.0 g.0 f.1.0 g.1.0), c.interleave.ensures l r formed f.1 g.1)

@@ -1,6 +1,6 @@
 use denote.Text.{Utf8}
 use denote.Shadow.{shadow}
-use Rattle.season.proofs.words.WordsDisplay.fmt.Given as goal
+use Rattle.season.proofs.script.WordsDisplay.fmt.Given as goal
 
 -- what stands before the next word is text
 abbrev pub invariant-loop-word : goal.invariant-loop-word

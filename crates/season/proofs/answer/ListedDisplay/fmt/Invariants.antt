@@ -1,0 +1,15 @@
+use Rattle.std.proofs.Common.{◌≡◌}
+use denote.Text.{Utf8}
+use denote.Shadow.{shadow}
+use Rattle.std.specs.Fmt.{IsPlainFormatter, HasWritten}
+use Rattle.season.specs.Texts.{symbols_below}
+use Rattle.season.proofs.Listing.{gap_after, row}
+use Rattle.season.proofs.answer.ListedDisplay.fmt.Given as goal
+
+-- the symbols below this one are written, and what stands before the next is text: nothing, or a comma
+abbrev pub invariant-loop-symbol : goal.invariant-loop-symbol
+invariant-loop-symbol g l =
+    let seen = symbols_below l.symbol-counter l.self.0.bits in
+    shadow (Utf8 l.gap) ×
+    (l.gap ≡ gap_after seen) ×
+    (IsPlainFormatter l.initial.f → HasWritten g.W.Write.write_str_gives l.initial.f (row seen) l.f)

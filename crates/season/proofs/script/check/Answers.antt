@@ -1,0 +1,27 @@
+use Rattle.std.proofs.Common.{is_ok, vec_items, sym, ap, subst, arith}
+use Rattle.season.proofs.Words.{Sofar, first_of, begins_more, counted, one_more}
+use Rattle.std.proofs.ResultArms.{chosen}
+use Rattle.std.proofs.lemmas.Result.{err_from_is_err_and}
+use Rattle.season.proofs.script.check.Goals as goal
+
+pub returns-in_default : goal.returns-in_default
+returns-in_default c =
+    let old = c.loop-word.invariant in
+    let first = first_of _ c.in-Some.word.now _ c.in-Some.ensures.steps in (
+      old.seen,
+      vec_items c.loop-word.parts,
+      _,
+      begins_more _ old.seen _ _ _ old.begins first,
+      old.written,
+      omega (arith, c.len.ensures, c.loop-word.parts.ok.0, counted old),
+      sym c.in_default.ensures,
+    )
+
+pub loop-word-preserved : goal.loop-word-preserved
+loop-word-preserved c =
+    let pushed = chosen _ _ _ _ c.push.ensures.items (ap is_ok c.in_ok-push.was) in
+    let first = first_of _ c.in-Some.word.now _ c.in-Some.ensures.steps in
+    subst (Sofar _ _) (sym pushed) (one_more c.loop-word.invariant _ _ _ first (sym c.in-Some-part.ensures))
+
+pub returns-in_err-push : goal.returns-in_err-push
+returns-in_err-push c = let p = err_from_is_err_and c.from_residual.result c.from_residual.ensures.1 in rw (p.1, p.2) tt
