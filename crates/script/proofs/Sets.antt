@@ -1,5 +1,5 @@
 -- The set that fields write, symbol by symbol. Assumes nothing.
-use Rattle.std.proofs.Common.{◌≡◌, ℕ, ◌≤◌, true, false, ◌⊎◌, List, [], ◌∷◌, Some, None, codes, Option, sym, refl, ap, ◌∙◌, subst, inl, inr}
+use Rattle.std.proofs.Common.{◌≡◌, ℕ, ◌≤◌, Bool, true, false, ◌⊎◌, List, [], ◌∷◌, Some, None, codes, Option, Decides, sym, refl, ap, ◌∙◌, subst, inl, inr}
 use lib.Bits.{bit_or}
 use Rattle.std.specs.Str.{bytes_eq}
 use Rattle.std.proofs.lemmas.Slice.Eq.{bytes_eq-Decides}
@@ -46,6 +46,10 @@ after_some old x f fs e = ap (λ o. elim o [ None ↦ None | Some s ↦ set_afte
 
 pub after_none : (old : ℕ) (f : List ℕ) (fs : List (List ℕ)) → number_read f ≡ None → set_after old (f ∷ fs) ≡ None
 after_none old f fs e = ap (λ o. elim o [ None ↦ None | Some s ↦ set_after (bit_or old (only s)) fs ]) e
+
+-- what the test for '-' answers
+pub dash_test : (word : List ℕ) (r : Bool) → r ≡ bytes_eq word (codes "-") → Decides r (word ≡ codes "-")
+dash_test word r e = subst (λ b. Decides b (word ≡ codes "-")) (sym e) (bytes_eq-Decides word (codes "-"))
 
 -- what is read of a word other than '-'
 module _ (word : List ℕ) (r : Option SymbolSet) (e : r ≡ set_after 0 (fields 44 word)) where
