@@ -1,0 +1,51 @@
+//! Why a run ended early, and what is said of it.
+ghost use Rattle.season_ask.specs.Failures.{failure_said};
+
+use std::alloc::AllocError;
+use std::{fmt, io};
+
+/// Why a run ended early. The reason of a bad line is text, since it outlives the script.
+#[derive(Drop)]
+pub enum Failure {
+    TooManyArguments,
+    BadFile { path: String, error: io::Error },
+    BadInput { error: io::Error },
+    BadLine { number: usize, reason: String },
+    Io { error: io::Error },
+}
+
+impl From<io::Error> for Failure {
+    fn from(error: io::Error) -> Failure {
+        Failure::Io { error }
+    }
+}
+
+impl From<AllocError> for Failure {
+    fn from(error: AllocError) -> Failure {
+        let error = error.into();
+        Failure::Io { error }
+    }
+}
+
+impl fmt::Display for Failure {
+    ghost output = { λ e. failure_said e };
+
+    fn fmt<W: fmt::Write>(&self, f: &mut fmt::Formatter<W>) -> fmt::Result {
+        match self {
+            Failure::TooManyArguments => {
+                write!(f, "expected one argument at most, the file of a script")
+            }
+            Failure::BadFile { path, error } => {
+                write!(f, "expected a script of UTF-8 text in {path}: {error}")
+            }
+            Failure::BadInput { error } => {
+                write!(
+                    f,
+                    "expected a script of UTF-8 text on standard input: {error}"
+                )
+            }
+            Failure::BadLine { number, reason } => write!(f, "line {number}: {reason}"),
+            Failure::Io { error } => write!(f, "{error}"),
+        }
+    }
+}
