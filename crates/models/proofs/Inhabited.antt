@@ -1,5 +1,5 @@
 -- Every well-formed tree has a message, and one that has a symbol a nonempty one. Assumes nothing.
-use Rattle.std.proofs.Common.{◌≡◌, ℕ, zero, suc, ◌≤◌, ◌⊎◌, [], ◌∷◌, ◌++◌, refl, inl, inr, ⊎_elim, arith}
+use Rattle.std.proofs.Common.{◌≡◌, ℕ, zero, suc, ◌≤◌, [], ◌∷◌, ◌++◌, refl, inl, inr, ⊎_elim, arith}
 use Rattle.std.proofs.lemmas.Bool.{or_cases, false≢true}
 use Rattle.models.specs.Messages.{Message}
 use Rattle.models.specs.Trees.{Tree, Fits, Between, Bounds, Formed, Inhabited, has_symbol}
