@@ -7,7 +7,9 @@ Reads tools/respell.tsv beside this file: rows of an old name, a new name and, w
 holds in some files alone, the beginnings of their paths with commas between. A name is a whole
 word. It is turned in all of an .antt file but text in quotes, and in an .rt file in its ghost
 items and clauses alone, so that functions, strings and exported names stay as they are. Names
-that come from the kit are in no row.
+that come from the kit are in no row. A name that the kit makes of a function's, in an answer
+file, turns too where it is spelled like a row, as most-repeated of a function most_repeated
+did: mend that by hand.
 """
 
 import re

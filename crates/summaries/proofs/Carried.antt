@@ -41,12 +41,27 @@ module _ {put : Message → Message → Message → Type 0} {form : Tree → Tre
   sides_carry u v (inr (b, g, h)) =
       let (a, f) = some_message l u in (a ++ b, sides.made l r (a ++ b) (a, b, sides.mixes.appended a b, f, g), occurs_right s a b h)
 
+pub carries_sequence : (l r : Tree) (s : ℕ) → Carries (sequence l r) s → Carries l s ⊎ Carries r s
+carries_sequence l r s h = carries_sides sequence_sides l r s h
+
+pub sequence_carries : (l r : Tree) (s : ℕ) → Formed l → Formed r → Carries l s ⊎ Carries r s → Carries (sequence l r) s
+sequence_carries l r s u v h = sides_carry sequence_sides l r s u v h
+
+pub carries_interleave : (l r : Tree) (s : ℕ) → Carries (interleave l r) s → Carries l s ⊎ Carries r s
+carries_interleave l r s h = carries_sides interleave_sides l r s h
+
+pub interleave_carries : (l r : Tree) (s : ℕ) → Formed l → Formed r → Carries l s ⊎ Carries r s → Carries (interleave l r) s
+interleave_carries l r s u v h = sides_carry interleave_sides l r s u v h
+
 pub carries_count : (t : Tree) (low high s : ℕ) → Carries (count t low high) s → Carries t s
 carries_count t low high s (m, (j, w, q), h) = Occurs-Joined (Fits t) s j m q h
 
+occurs_repeated : (s j : ℕ) (m : Message) → 1 ≤ j → Occurs s m → Occurs s (repeated j m)
+occurs_repeated s j m some h = repeated_occurs s j m some h
+
 pub count_carries : (t : Tree) (low high s : ℕ) → Bounds low high → Carries t s → Carries (count t low high) s
 count_carries t low high s b (m, f, h) =
-    (repeated low m, (low, between_low low high b, joined_repeated (Fits t) m f low), repeated_occurs s low m b.0 h)
+    (repeated low m, (low, between_low low high b, joined_repeated (Fits t) m f low), occurs_repeated s low m b.0 h)
 
 pub carries_nonempty : (t : Tree) (s : ℕ) → Carries (nonempty t) s → Carries t s
 carries_nonempty t s (m, f, h) = (m, f.0, h)
@@ -67,6 +82,12 @@ module _ (a b : ℕ) (l r : Tree) (f : SymbolsAre l a) (g : SymbolsAre r b) wher
 
   pub sides_symbols : {put : Message → Message → Message → Type 0} {form : Tree → Tree → Tree} → Sides put form → Formed l → Formed r → SymbolsAre (form l r) (bit_or a b)
   sides_symbols sides u v s = ((λ h. sides_carry sides l r s u v (split s h)), (λ h. united s (carries_sides sides l r s h)))
+
+  pub sequence_symbols : Formed l → Formed r → SymbolsAre (sequence l r) (bit_or a b)
+  sequence_symbols = sides_symbols sequence_sides
+
+  pub interleave_symbols : Formed l → Formed r → SymbolsAre (interleave l r) (bit_or a b)
+  interleave_symbols = sides_symbols interleave_sides
 
 pub empty_symbols : SymbolsAre empty 0
 empty_symbols s = ((λ h. absurd (in_none s h)), (λ h. absurd (carries_empty s h)))
@@ -89,9 +110,9 @@ stands_carried empty s f h = absurd h
 stands_carried (symbol x) s f h = subst (Carries (symbol x)) h (symbol_carries x)
 stands_carried (choice l r) s f h = choice_carries l r s (⊎_elim (λ z. inl (stands_carried l s f.0 z)) (λ z. inr (stands_carried r s f.1 z)) h)
 stands_carried (sequence l r) s f h =
-    sides_carry sequence_sides l r s f.0 f.1 (⊎_elim (λ z. inl (stands_carried l s f.0 z)) (λ z. inr (stands_carried r s f.1 z)) h)
+    sequence_carries l r s f.0 f.1 (⊎_elim (λ z. inl (stands_carried l s f.0 z)) (λ z. inr (stands_carried r s f.1 z)) h)
 stands_carried (interleave l r) s f h =
-    sides_carry interleave_sides l r s f.0 f.1 (⊎_elim (λ z. inl (stands_carried l s f.0 z)) (λ z. inr (stands_carried r s f.1 z)) h)
+    interleave_carries l r s f.0 f.1 (⊎_elim (λ z. inl (stands_carried l s f.0 z)) (λ z. inr (stands_carried r s f.1 z)) h)
 stands_carried (count t low high) s f h = count_carries t low high s f.1 (stands_carried t s f.0 h)
 stands_carried (nonempty t) s f h = nonempty_carries t s (stands_carried t s f.0 h)
 
@@ -99,8 +120,8 @@ carried_stands : (t : Tree) (s : ℕ) → Carries t s → Stands t s
 carried_stands empty s h = carries_empty s h
 carried_stands (symbol x) s h = carries_symbol x s h
 carried_stands (choice l r) s h = ⊎_elim (λ z. inl (carried_stands l s z)) (λ z. inr (carried_stands r s z)) (carries_choice l r s h)
-carried_stands (sequence l r) s h = ⊎_elim (λ z. inl (carried_stands l s z)) (λ z. inr (carried_stands r s z)) (carries_sides sequence_sides l r s h)
-carried_stands (interleave l r) s h = ⊎_elim (λ z. inl (carried_stands l s z)) (λ z. inr (carried_stands r s z)) (carries_sides interleave_sides l r s h)
+carried_stands (sequence l r) s h = ⊎_elim (λ z. inl (carried_stands l s z)) (λ z. inr (carried_stands r s z)) (carries_sequence l r s h)
+carried_stands (interleave l r) s h = ⊎_elim (λ z. inl (carried_stands l s z)) (λ z. inr (carried_stands r s z)) (carries_interleave l r s h)
 carried_stands (count t low high) s h = carried_stands t s (carries_count t low high s h)
 carried_stands (nonempty t) s h = carried_stands t s (carries_nonempty t s h)
 

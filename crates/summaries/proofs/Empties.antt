@@ -4,10 +4,10 @@ use Rattle.std.proofs.lemmas.Bool.Decides.{Decides-and, Decides-like}
 use Rattle.models.specs.Messages.{Message, Shuffle, Followed, Joined}
 use Rattle.models.specs.Messages.Shuffle.{done}
 use Rattle.models.specs.Trees.{Tree, Fits, Bounds}
-use Rattle.models.specs.Trees.Tree.{count}
+use Rattle.models.specs.Trees.Tree.{sequence, interleave, count}
 use Rattle.summaries.specs.Empties.{EmptyCount}
 use Rattle.models.proofs.Inhabited.{between_low}
-use Rattle.models.proofs.Sides.{Sides}
+use Rattle.models.proofs.Sides.{Sides, sequence_sides, interleave_sides}
 use Rattle.models.proofs.Unlike.{cons-nil}
 
 followed_empty : (P Q : Message → Type 0) → Followed P Q [] → P [] × Q []
@@ -24,6 +24,12 @@ sides_empty sides v w l r f g =
     (λ (p, q). sides.made l r [] ([], [], sides.mixes.appended [] [], p, q))
     (λ h. let (a, b, s, p, q) = sides.apart l r [] h in both_empty (Fits l) (Fits r) (sides.mixes.shuffled a b [] s) p q)
     (Decides-and v w f g)
+
+pub sequence_empty : (a b : Bool) (l r : Tree) → Decides a (Fits l []) → Decides b (Fits r []) → Decides (a && b) (Fits (sequence l r) [])
+sequence_empty a b l r f g = sides_empty sequence_sides a b l r f g
+
+pub interleave_empty : (a b : Bool) (l r : Tree) → Decides a (Fits l []) → Decides b (Fits r []) → Decides (a && b) (Fits (interleave l r) [])
+interleave_empty a b l r f g = sides_empty interleave_sides a b l r f g
 
 joined_empty : (P : Message → Type 0) → P [] → (j : ℕ) → Joined P j []
 joined_empty P p zero = refl
