@@ -2,6 +2,9 @@
 
 #![tactic(auto)]
 
+ghost use Rattle.std.specs.Prelude.{◌≡◌, OnOk, OnErr};
+ghost use Rattle.std.specs.Process.{exit_status};
+
 mod answer;
 mod read;
 mod script;
@@ -73,12 +76,23 @@ impl fmt::Display for Failure {
 }
 
 fn main(rt: HostRuntime) -> ExitCode {
-    match run(&rt) {
+    let outcome = run(&rt);
+    let status = status_of(&outcome);
+    if let Err(failure) = outcome {
+        // a message that cannot be written changes nothing in the status
+        let _ = eprintln!(rt; "{failure}");
+    }
+    status
+}
+
+// What the program ends with. An error that `main` returned would be printed once more.
+fn status_of(outcome: &Result<(), Failure>) -> ExitCode
+    ensures whole { OnOk outcome.now (exit_status result ≡ 0) }
+    ensures early { OnErr outcome.now (exit_status result ≡ 1) }
+{
+    match outcome {
         Ok(()) => ExitCode::SUCCESS,
-        Err(failure) => match eprintln!(rt; "{failure}") {
-            // a message that cannot be written changes nothing in the status
-            Ok(()) | Err(_) => ExitCode::FAILURE,
-        },
+        Err(_) => ExitCode::FAILURE,
     }
 }
 

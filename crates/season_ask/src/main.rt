@@ -1,6 +1,10 @@
-//! Answers the calls of a script, one to a line.
+//! Answers the calls of a script, one to a line: `check` and `ask`. Unfinished: it is
+//! to take the place of `season`, which has `check` alone.
 
 #![tactic(auto)]
+
+ghost use Rattle.std.specs.Prelude.{◌≡◌, OnOk, OnErr};
+ghost use Rattle.std.specs.Process.{exit_status};
 
 mod failure;
 mod words;
@@ -41,12 +45,23 @@ A line that is no call ends the run with a message and status 1.
 ";
 
 fn main(rt: HostRuntime) -> ExitCode {
-    match run(&rt) {
+    let outcome = run(&rt);
+    let status = status_of(&outcome);
+    if let Err(failure) = outcome {
+        // a message that cannot be written changes nothing in the status
+        let _ = eprintln!(rt; "{failure}");
+    }
+    status
+}
+
+// What the program ends with. An error that `main` returned would be printed once more.
+fn status_of(outcome: &Result<(), Failure>) -> ExitCode
+    ensures whole { OnOk outcome.now (exit_status result ≡ 0) }
+    ensures early { OnErr outcome.now (exit_status result ≡ 1) }
+{
+    match outcome {
         Ok(()) => ExitCode::SUCCESS,
-        Err(failure) => match eprintln!(rt; "{failure}") {
-            // a message that cannot be written changes nothing in the status
-            Ok(()) | Err(_) => ExitCode::FAILURE,
-        },
+        Err(_) => ExitCode::FAILURE,
     }
 }
 
