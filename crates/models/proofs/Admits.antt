@@ -24,7 +24,7 @@ FormFits (Symbol s) = s ≤ 63
 FormFits Choice = Unit {0}
 FormFits Sequence = Unit {0}
 FormFits Interleave = Unit {0}
-FormFits (Count low high) = Bounds low high
+FormFits (Count repeats) = Bounds repeats.low repeats.high
 FormFits Nonempty = Unit {0}
 
 pub form_fits : (p : Part) (f : Form) → form_of p ≡ Some f → are_fields_fit p ≡ true → FormFits f
@@ -33,8 +33,8 @@ form_fits p (Symbol s) e h = grind (arith, nat_tests)
 form_fits p Choice e h = tt
 form_fits p Sequence e h = tt
 form_fits p Interleave e h = tt
-form_fits p (Count low high) e h =
-    (grind (arith, nat_tests), grind (arith, nat_tests), elim (cases_eq high 0) [ inl z ↦ inl z | inr z ↦ inr (grind (arith, nat_tests), grind (arith, nat_tests)) ])
+form_fits p (Count repeats) e h =
+    (grind (arith, nat_tests), grind (arith, nat_tests), elim (cases_eq repeats.high 0) [ inl z ↦ inl z | inr z ↦ inr (grind (arith, nat_tests), grind (arith, nat_tests)) ])
 form_fits p Nonempty e h = tt
 
 -- enough wait, so the form leaves some trees waiting
@@ -50,8 +50,8 @@ join_enough Sequence (r ∷ l ∷ ts) h = (_, refl)
 join_enough Interleave [] h = absurd (omega arith)
 join_enough Interleave (r ∷ []) h = absurd (omega arith)
 join_enough Interleave (r ∷ l ∷ ts) h = (_, refl)
-join_enough (Count low high) [] h = absurd (omega arith)
-join_enough (Count low high) (t ∷ ts) h = (_, refl)
+join_enough (Count repeats) [] h = absurd (omega arith)
+join_enough (Count repeats) (t ∷ ts) h = (_, refl)
 join_enough Nonempty [] h = absurd (omega arith)
 join_enough Nonempty (t ∷ ts) h = (_, refl)
 
@@ -72,8 +72,8 @@ join_formed Sequence (r ∷ l ∷ ts) b s h = ((h.1.0, h.0), h.1.1)
 join_formed Interleave [] b s h = tt
 join_formed Interleave (r ∷ []) b s h = tt
 join_formed Interleave (r ∷ l ∷ ts) b s h = ((h.1.0, h.0), h.1.1)
-join_formed (Count low high) [] b s h = tt
-join_formed (Count low high) (t ∷ ts) b s h = ((h.0, b), h.1)
+join_formed (Count repeats) [] b s h = tt
+join_formed (Count repeats) (t ∷ ts) b s h = ((h.0, b), h.1)
 join_formed Nonempty [] b s h = tt
 join_formed Nonempty (t ∷ ts) b s h = ((h.0, s), h.1)
 
@@ -84,7 +84,7 @@ flag_taken_lem (Symbol s) ts vs h = refl
 flag_taken_lem Choice ts vs h = refl
 flag_taken_lem Sequence ts vs h = refl
 flag_taken_lem Interleave ts vs h = refl
-flag_taken_lem (Count low high) ts vs h = refl
+flag_taken_lem (Count repeats) ts vs h = refl
 flag_taken_lem Nonempty [] [] h = refl
 flag_taken_lem Nonempty [] (v ∷ vs) h = absurd h
 flag_taken_lem Nonempty (t ∷ ts) [] h = absurd h

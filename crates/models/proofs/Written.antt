@@ -24,7 +24,7 @@ form_part (Symbol s) = part 1 s 0 0
 form_part Choice = part 2 0 0 0
 form_part Sequence = part 3 0 0 0
 form_part Interleave = part 4 0 0 0
-form_part (Count low high) = part 5 0 low high
+form_part (Count repeats) = part 5 0 repeats.low repeats.high
 form_part Nonempty = part 6 0 0 0
 
 same_part : (p : Part) (k s l h : ℕ) → p.kind ≡ k → p.symbol ≡ s → p.low ≡ l → p.high ≡ h → p ≡ part k s l h
@@ -38,7 +38,7 @@ part_of_form p (Symbol s) e h = same_part p 1 s 0 0 (grind (arith, nat_tests)) (
 part_of_form p Choice e h = same_part p 2 0 0 0 (grind (arith, nat_tests)) (grind (arith, nat_tests)) (grind (arith, nat_tests)) (grind (arith, nat_tests))
 part_of_form p Sequence e h = same_part p 3 0 0 0 (grind (arith, nat_tests)) (grind (arith, nat_tests)) (grind (arith, nat_tests)) (grind (arith, nat_tests))
 part_of_form p Interleave e h = same_part p 4 0 0 0 (grind (arith, nat_tests)) (grind (arith, nat_tests)) (grind (arith, nat_tests)) (grind (arith, nat_tests))
-part_of_form p (Count low high) e h = same_part p 5 0 low high (grind (arith, nat_tests)) (grind (arith, nat_tests)) (grind (arith, nat_tests)) (grind (arith, nat_tests))
+part_of_form p (Count repeats) e h = same_part p 5 0 repeats.low repeats.high (grind (arith, nat_tests)) (grind (arith, nat_tests)) (grind (arith, nat_tests)) (grind (arith, nat_tests))
 part_of_form p Nonempty e h = same_part p 6 0 0 0 (grind (arith, nat_tests)) (grind (arith, nat_tests)) (grind (arith, nat_tests)) (grind (arith, nat_tests))
 
 LaidIn : Option (List Tree) → List Part → Type 0
@@ -58,8 +58,8 @@ join_laid Sequence (r ∷ l ∷ ts) = simp (map-append, append_assoc)
 join_laid Interleave [] = tt
 join_laid Interleave (r ∷ []) = tt
 join_laid Interleave (r ∷ l ∷ ts) = simp (map-append, append_assoc)
-join_laid (Count low high) [] = tt
-join_laid (Count low high) (t ∷ ts) = simp (map-append, append_assoc)
+join_laid (Count repeats) [] = tt
+join_laid (Count repeats) (t ∷ ts) = simp (map-append, append_assoc)
 join_laid Nonempty [] = tt
 join_laid Nonempty (t ∷ ts) = simp (map-append, append_assoc)
 

@@ -18,7 +18,7 @@ flag_taken (Symbol s) v = true
 flag_taken Choice v = true
 flag_taken Sequence v = true
 flag_taken Interleave v = true
-flag_taken (Count low high) v = true
+flag_taken (Count repeats) v = true
 flag_taken Nonempty None = true
 flag_taken Nonempty (Some v) = v
 

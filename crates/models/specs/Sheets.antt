@@ -20,7 +20,7 @@ shape (Symbol s) = leaf (symbol s)
 shape Choice = pair choice
 shape Sequence = pair sequence
 shape Interleave = pair interleave
-shape (Count low high) = single (λ t. count t low high)
+shape (Count repeats) = single (λ t. count t repeats.low repeats.high)
 shape Nonempty = single nonempty
 
 -- the trees that wait afterwards, the last first, where enough wait; of two taken, the earlier is the left one
@@ -39,7 +39,7 @@ symbol_taken (Symbol s) ts = true
 symbol_taken Choice ts = true
 symbol_taken Sequence ts = true
 symbol_taken Interleave ts = true
-symbol_taken (Count low high) ts = true
+symbol_taken (Count repeats) ts = true
 symbol_taken Nonempty [] = true
 symbol_taken Nonempty (t ∷ ts) = has_symbol t
 

@@ -12,7 +12,7 @@ Clash (Some (Symbol s)) seen after r = Decides r (In seen s)
 Clash (Some Choice) seen after r = r ≡ false
 Clash (Some Sequence) seen after r = r ≡ false
 Clash (Some Interleave) seen after r = r ≡ false
-Clash (Some (Count low high)) seen after r = r ≡ not after
+Clash (Some (Count repeats)) seen after r = r ≡ not after
 Clash (Some Nonempty) seen after r = r ≡ false
 
 -- the set of the part's own symbol, if it has one
@@ -23,5 +23,5 @@ own_bits (Some (Symbol s)) = cond (nat_le s 63) (2 ^ s) 0
 own_bits (Some Choice) = 0
 own_bits (Some Sequence) = 0
 own_bits (Some Interleave) = 0
-own_bits (Some (Count low high)) = 0
+own_bits (Some (Count repeats)) = 0
 own_bits (Some Nonempty) = 0

@@ -6,6 +6,8 @@ ghost use Rattle.models.specs.Trees.{Tree, Formed};
 
 pub mod work;
 
+use parts::part::Repeats;
+
 /// Whoever implements it says by `means` what a value tells about a tree's
 /// messages, and owes for each kind that true values taken give a true value.
 /// The tree made is known to be well formed, so each tree taken has some
@@ -30,8 +32,8 @@ pub trait Summary {
     fn interleave(&self, left: Self::Value, right: Self::Value) -> Self::Value
         ensures { Keeps2 (means self.now) interleave_tree left right result };
 
-    fn count(&self, of: Self::Value, low: u32, high: u32) -> Self::Value
-        ensures { Keeps1 (means self.now) (λ t. count_tree t low high) of result };
+    fn count(&self, of: Self::Value, repeats: Repeats) -> Self::Value
+        ensures { Keeps1 (means self.now) (λ t. count_tree t repeats.low repeats.high) of result };
 
     fn nonempty(&self, of: Self::Value) -> Self::Value
         ensures { Keeps1 (means self.now) nonempty_tree of result };

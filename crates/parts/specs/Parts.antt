@@ -12,7 +12,7 @@ form_of p =
     (cond (p.kind == 2) (Some Choice)
     (cond (p.kind == 3) (Some Sequence)
     (cond (p.kind == 4) (Some Interleave)
-    (cond (p.kind == 5) (Some (Count p.low p.high))
+    (cond (p.kind == 5) (Some (Count (record { low = p.low; high = p.high })))
     (cond (p.kind == 6) (Some Nonempty) None))))))
 
 -- low is 1 to 10,000, and high is low to 10,000, or 0
@@ -32,5 +32,5 @@ takes (Symbol s) = 0
 takes Choice = 2
 takes Sequence = 2
 takes Interleave = 2
-takes (Count low high) = 1
+takes (Count repeats) = 1
 takes Nonempty = 1

@@ -1,5 +1,5 @@
 -- What a refusal tells: the number of the question that got a no, its layer and a place. Assumes nothing.
-use Rattle.std.specs.Prelude.{ℕ}
+use Rattle.std.specs.Prelude.{ℕ, List, ◌++◌, codes, decimal}
 use Rattle.parts.specs.declared.refusal.Layer.{Layer}
 use Rattle.parts.specs.declared.refusal.Layer.TheVariants as layer
 use Rattle.parts.specs.declared.refusal.PartFault.{PartFault}
@@ -30,3 +30,13 @@ part_notice (NotOneWaiting length) = at_part 9 length
 abbrev pub notice : Refusal → Notice
 notice (TableLength length) = at_set 4 length
 notice (Part fault) = part_notice fault
+
+-- what is printed of a layer
+abbrev pub layer_name_of : Layer → List ℕ
+layer_name_of layer.Set = codes "set"
+layer_name_of layer.Part = codes "part"
+
+-- what is printed of a refusal
+abbrev pub refusal_said : Notice → List ℕ
+refusal_said n =
+    codes "refused " ++ (decimal n.number ++ (codes ", " ++ (layer_name_of n.layer ++ (codes ", place " ++ decimal n.place))))

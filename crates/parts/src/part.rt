@@ -1,7 +1,7 @@
 //! A part of a sheet as it comes from outside, and the form that its kind names.
 
 ghost use Rattle.std.specs.Prelude.{◌≡◌};
-ghost use Rattle.parts.specs.Parts.{form_of, are_fields_fit, takes as taken};
+ghost use Rattle.parts.specs.Parts.{form_of, bounded, are_fields_fit, takes as taken};
 
 /// The largest symbol.
 pub const LAST_SYMBOL: u32 = 63;
@@ -26,6 +26,15 @@ pub struct Part {
     pub high: u32,
 }
 
+/// How often the part that a count takes is repeated.
+#[derive(Clone, Copy)]
+pub struct Repeats {
+    /// the fewest repetitions
+    pub low: u32,
+    /// the most repetitions, or 0 for no upper end
+    pub high: u32,
+}
+
 /// What a part of a known kind does.
 #[derive(Clone, Copy)]
 pub enum Form {
@@ -34,7 +43,7 @@ pub enum Form {
     Choice,
     Sequence,
     Interleave,
-    Count { low: u32, high: u32 },
+    Count(Repeats),
     Nonempty,
 }
 
@@ -49,10 +58,7 @@ impl Part {
             2 => Some(Form::Choice),
             3 => Some(Form::Sequence),
             4 => Some(Form::Interleave),
-            5 => Some(Form::Count {
-                low: self.low,
-                high: self.high,
-            }),
+            5 => Some(Form::Count(self.repeats())),
             6 => Some(Form::Nonempty),
             _ => None,
         }
@@ -65,14 +71,30 @@ impl Part {
         let uncounted = self.low == 0 && self.high == 0;
         match self.kind {
             1 => self.symbol <= LAST_SYMBOL && uncounted,
-            5 => {
-                self.symbol == 0
-                    && 1 <= self.low
-                    && self.low <= MOST_REPEATS
-                    && (self.high == 0 || self.low <= self.high && self.high <= MOST_REPEATS)
-            }
+            5 => self.symbol == 0 && self.repeats().in_range(),
             _ => self.symbol == 0 && uncounted,
         }
+    }
+
+    // What the fields of a count say.
+    fn repeats(&self) -> Repeats
+        ensures { result ≡ record { low = self.now.low; high = self.now.high } }
+    {
+        Repeats {
+            low: self.low,
+            high: self.high,
+        }
+    }
+}
+
+impl Repeats {
+    /// Whether low is 1 to 10,000, and high low to 10,000 or 0.
+    pub fn in_range(&self) -> bool
+        ensures { result ≡ bounded self.now.low self.now.high }
+    {
+        1 <= self.low
+            && self.low <= MOST_REPEATS
+            && (self.high == 0 || self.low <= self.high && self.high <= MOST_REPEATS)
     }
 }
 
@@ -84,7 +106,7 @@ impl Form {
         match self {
             Form::Empty | Form::Symbol(_) => 0,
             Form::Choice | Form::Sequence | Form::Interleave => 2,
-            Form::Count { .. } | Form::Nonempty => 1,
+            Form::Count(_) | Form::Nonempty => 1,
         }
     }
 }

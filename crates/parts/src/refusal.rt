@@ -1,7 +1,9 @@
 //! Why a call is refused: its number, its layer and a place.
 
-ghost use Rattle.std.specs.Prelude.{◌≡◌};
-ghost use Rattle.parts.specs.Refusals.{notice, part_notice};
+ghost use Rattle.std.specs.Prelude.{◌≡◌, Some};
+ghost use Rattle.parts.specs.Refusals.{notice, part_notice, layer_name_of, refusal_said};
+
+use std::fmt;
 
 /// Where a refusal comes from.
 #[derive(Clone, Copy)]
@@ -74,11 +76,35 @@ impl Refusal {
     {
         match self {
             Refusal::TableLength { length } => *length,
-            Refusal::Part(PartFault::UnknownKind { place }) => *place,
-            Refusal::Part(PartFault::BadFields { place }) => *place,
-            Refusal::Part(PartFault::TooFewWaiting { place }) => *place,
-            Refusal::Part(PartFault::NoSymbolTaken { place }) => *place,
+            Refusal::Part(
+                PartFault::UnknownKind { place }
+                | PartFault::BadFields { place }
+                | PartFault::TooFewWaiting { place }
+                | PartFault::NoSymbolTaken { place },
+            ) => *place,
             Refusal::Part(PartFault::NotOneWaiting { length }) => *length,
         }
+    }
+}
+
+impl fmt::Display for Layer {
+    ghost output = { λ l. Some (layer_name_of l) };
+
+    fn fmt<W: fmt::Write>(&self, f: &mut fmt::Formatter<W>) -> fmt::Result {
+        f.write_str(match self {
+            Layer::Set => "set",
+            Layer::Part => "part",
+        })
+    }
+}
+
+impl fmt::Display for Refusal {
+    ghost output = { λ r. Some (refusal_said (notice r)) };
+
+    fn fmt<W: fmt::Write>(&self, f: &mut fmt::Formatter<W>) -> fmt::Result {
+        let number = self.number();
+        let layer = self.layer();
+        let place = self.place();
+        write!(f, "refused {number}, {layer}, place {place}")
     }
 }

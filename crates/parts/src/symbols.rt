@@ -1,9 +1,13 @@
 //! Sets of symbols.
 
-ghost use Rattle.std.specs.Prelude.{◌≡◌, ◌^◌, if◌then◌else◌, Decides, bit_or, nat_le};
-ghost use Rattle.parts.specs.Sets.{In};
+ghost use Rattle.std.specs.Prelude.{◌≡◌, ◌^◌, if◌then◌else◌, Some, Decides, bit_or, nat_le};
+ghost use Rattle.parts.specs.Sets.{In, listed};
 
 use crate::part::LAST_SYMBOL;
+use std::fmt;
+
+/// How many symbols there are, one for each bit of a set.
+const SYMBOLS: u32 = LAST_SYMBOL + 1;
 
 /// A set of symbols: the bit worth 2^s stands for symbol s. A symbol above 63
 /// belongs to no set.
@@ -39,5 +43,23 @@ impl SymbolSet {
         SymbolSet {
             bits: self.bits | other.bits,
         }
+    }
+}
+
+/// The symbols in braces, ascending, with commas between them.
+impl fmt::Display for SymbolSet {
+    ghost output = { λ set. Some (listed set.bits) };
+
+    fn fmt<W: fmt::Write>(&self, f: &mut fmt::Formatter<W>) -> fmt::Result {
+        let mut gap = "";
+        f.write_str("{")?;
+        for symbol in 0..SYMBOLS {
+            if !self.has(symbol) {
+                continue;
+            }
+            write!(f, "{gap}{symbol}")?;
+            gap = ",";
+        }
+        f.write_str("}")
     }
 }

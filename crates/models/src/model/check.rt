@@ -1,7 +1,7 @@
 //! The check of a table of parts, which alone makes models.
 
-ghost use Rattle.std.specs.Prelude.{◌≡◌, ◌+◌, ◌<◌, ◌≤◌, List, [], length};
-ghost use Rattle.models.specs.Checked.{parts_of, tree_of, parts_kept, told as answered};
+ghost use Rattle.std.specs.Prelude.{◌≡◌, ◌+◌, ◌<◌, ◌≤◌, List, [], length, IfOk};
+ghost use Rattle.models.specs.Checked.{parts_of, tree_of, told as answered};
 ghost use Rattle.models.specs.Checking.{flags, flag_taken, Admitted, Answers};
 ghost use Rattle.models.specs.Refused.{RefusedExactly};
 ghost use Rattle.models.specs.Sheets.{reading, table_answer, tree, step};
@@ -16,21 +16,6 @@ use crate::summary::work::apply;
 use parts::part::{Form, MOST_PARTS, Part};
 use parts::refusal::{PartFault, Refusal};
 use parts::stack::Stack;
-
-/// The answer of the check, with the model that it made.
-#[derive(Clone, Copy)]
-pub struct Checked<'a> {
-    pub answer: Result<(), Refusal>,
-    /// the model of the table, or of the empty message where it is refused
-    pub model: Model<'a>,
-}
-
-static EMPTY: [Part; 1] = [Part {
-    kind: 0,
-    symbol: 0,
-    low: 0,
-    high: 0,
-}];
 
 // Whether a nonempty part takes a part with a symbol; the others need none.
 fn symbol_taken(form: Form, taken: Option<bool>) -> bool
@@ -61,7 +46,7 @@ fn check_part(place: usize, part: Part, waiting: &mut Stack<'_, bool>) -> Result
     if !symbol_taken(form, waiting.last()) {
         return Err(PartFault::NoSymbolTaken { place });
     }
-    apply(&HasSymbol {}, form, waiting);
+    apply(&HasSymbol, form, waiting);
     Ok(())
 }
 
@@ -86,7 +71,7 @@ fn check_parts(parts: &[Part]) -> Result<(), PartFault>
 
 // Asks the one question of the whole table, and then those of its parts.
 fn check_table(parts: &[Part]) -> Result<(), Refusal>
-    ensures { table_answer parts.now ≡ answered result (tree parts.now) }
+    ensures { table_answer parts.now ≡ answered (λ _. tree parts.now) result }
 {
     if parts.is_empty() || parts.len() > MOST_PARTS {
         return Err(Refusal::TableLength {
@@ -98,22 +83,13 @@ fn check_table(parts: &[Part]) -> Result<(), Refusal>
 }
 
 /// Checks a table: 1 to 256 parts, then each part in turn, then that one waits.
-pub fn check<'a>(parts: &'a [Part]) -> Checked<'a>
-    ensures answer { table_answer parts.now ≡ answered result.answer (tree_of result.model) }
-    ensures parts { parts_of result.model ≡ parts_kept result.answer parts.now }
+pub fn check<'a>(parts: &'a [Part]) -> Result<Model<'a>, Refusal>
+    ensures answer { table_answer parts.now ≡ answered tree_of result }
+    ensures parts { IfOk result (λ model. parts_of model ≡ parts.now) }
     ensures taken { TakenExactly }
     ensures refused { RefusedExactly }
-    ensures messages { Inhabited (tree_of result.model) }
+    ensures messages { IfOk result (λ model. Inhabited (tree_of model)) }
 {
-    let answer = check_table(parts);
-    match answer {
-        Ok(()) => Checked {
-            answer,
-            model: Model { parts },
-        },
-        Err(_) => Checked {
-            answer,
-            model: Model { parts: &EMPTY },
-        },
-    }
+    check_table(parts)?;
+    Ok(Model { parts })
 }

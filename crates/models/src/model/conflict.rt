@@ -16,7 +16,7 @@ fn clashes(form: Option<Form>, seen: SymbolSet, after_symbol: bool) -> bool
 {
     match form {
         Some(Form::Symbol(symbol)) => seen.has(symbol),
-        Some(Form::Count { .. }) => !after_symbol,
+        Some(Form::Count(_)) => !after_symbol,
         _ => false,
     }
 }

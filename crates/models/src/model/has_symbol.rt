@@ -4,9 +4,10 @@ ghost use Rattle.std.specs.Prelude.{◌≡◌};
 ghost use Rattle.models.specs.Trees.{has_symbol};
 
 use crate::summary::Summary;
+use parts::part::Repeats;
 
 /// Yes exactly where the part is or holds a symbol part.
-pub(crate) struct HasSymbol {}
+pub(crate) struct HasSymbol;
 
 impl Summary for HasSymbol {
     type Value = bool;
@@ -33,7 +34,7 @@ impl Summary for HasSymbol {
         left || right
     }
 
-    fn count(&self, of: bool, _low: u32, _high: u32) -> bool {
+    fn count(&self, of: bool, _repeats: Repeats) -> bool {
         of
     }
 

@@ -21,32 +21,23 @@ pub(crate) fn apply<S: Summary>(summary: &S, form: Form, stack: &mut Stack<'_, S
     ensures told { (ts us : List Tree) → Told (S.means summary.now) ts (waiting stack.old) → join (shape form) ts ≡ Some us → AllFormed us → Told (S.means summary.now) us (waiting stack.new) }
 {
     let made = match form {
-        Form::Empty => summary.empty(),
-        Form::Symbol(symbol) => summary.symbol(symbol),
-        Form::Choice | Form::Sequence | Form::Interleave => {
-            let (Some(right), Some(left)) = (stack.pop(), stack.pop()) else {
-                return;
-            };
-            match form {
-                Form::Choice => summary.choice(left, right),
-                Form::Sequence => summary.sequence(left, right),
-                _ => summary.interleave(left, right),
-            }
-        }
-        Form::Count { low, high } => {
-            let Some(of) = stack.pop() else {
-                return;
-            };
-            summary.count(of, low, high)
-        }
-        Form::Nonempty => {
-            let Some(of) = stack.pop() else {
-                return;
-            };
-            summary.nonempty(of)
-        }
+        Form::Empty => Some(summary.empty()),
+        Form::Symbol(symbol) => Some(summary.symbol(symbol)),
+        Form::Choice => stack
+            .pop_two()
+            .map(|(left, right)| summary.choice(left, right)),
+        Form::Sequence => stack
+            .pop_two()
+            .map(|(left, right)| summary.sequence(left, right)),
+        Form::Interleave => stack
+            .pop_two()
+            .map(|(left, right)| summary.interleave(left, right)),
+        Form::Count(repeats) => stack.pop().map(|of| summary.count(of, repeats)),
+        Form::Nonempty => stack.pop().map(|of| summary.nonempty(of)),
     };
-    let _ = stack.push(made);
+    if let Some(value) = made {
+        let _ = stack.push(value);
+    }
 }
 
 /// What a summary tells of a model. The working array is scratch: it comes

@@ -1,7 +1,7 @@
 //! What a stack does.
 
 ghost use Rattle.std.specs.Prelude.{◌≡◌, [], length, take};
-ghost use Rattle.parts.specs.Stacks.{waiting, depth, first_of, Pushed, Popped};
+ghost use Rattle.parts.specs.Stacks.{waiting, depth, lent, first_of, Pushed, Popped, PoppedTwo};
 
 use super::Stack;
 
@@ -10,7 +10,7 @@ impl<'a, E: Copy> Stack<'a, E> {
     pub fn new(items: &'a mut [E]) -> Stack<'a, E>
         ensures empty { waiting result ≡ [] }
         ensures depth { depth result ≡ 0 }
-        ensures room { result.items.now ≡ items.old }
+        ensures room { lent result ≡ items.old }
     {
         Stack { items, len: 0 }
     }
@@ -40,16 +40,16 @@ impl<'a, E: Copy> Stack<'a, E> {
         }
     }
 
-    /// Lets a value wait; false where the stack is full.
-    pub fn push(&mut self, value: E) -> bool
+    /// Lets a value wait; a full stack hands it back.
+    pub fn push(&mut self, value: E) -> Result<(), E>
         ensures { Pushed self.old value result self.new }
     {
         if self.len >= self.items.len() {
-            return false;
+            return Err(value);
         }
         self.items[self.len] = value;
         self.len += 1;
-        true
+        Ok(())
     }
 
     /// The value pushed last, which waits no more.
@@ -61,5 +61,16 @@ impl<'a, E: Copy> Stack<'a, E> {
         }
         self.len -= 1;
         Some(self.items[self.len])
+    }
+
+    /// The two values pushed last, the earlier one first, which wait no more.
+    pub fn pop_two(&mut self) -> Option<(E, E)>
+        ensures { PoppedTwo self.old result self.new }
+    {
+        if self.len < 2 {
+            return None;
+        }
+        self.len -= 2;
+        Some((self.items[self.len], self.items[self.len + 1]))
     }
 }

@@ -2,14 +2,14 @@ use Rattle.std.proofs.Common.{◌≡◌}
 use denote.Text.{Utf8}
 use denote.Shadow.{shadow}
 use Rattle.std.specs.Fmt.{IsPlainFormatter, HasWritten}
-use Rattle.answers.specs.Texts.{symbols_below}
-use Rattle.answers.proofs.Listing.{gap_after, row}
-use Rattle.answers.proofs.answer.ListedDisplay.fmt.Given as goal
+use Rattle.parts.specs.Sets.{symbols_below}
+use Rattle.parts.proofs.Listing.{gap_after, row}
+use Rattle.parts.proofs.symbols.SymbolSetDisplay.fmt.Given as goal
 
 -- the symbols below this one are written, and what stands before the next is text: nothing, or a comma
 abbrev pub invariant-loop-symbol : goal.invariant-loop-symbol
 invariant-loop-symbol g l =
-    let seen = symbols_below l.symbol-counter l.self.0.bits in
+    let seen = symbols_below l.symbol-counter l.self.bits in
     shadow (Utf8 l.gap) ×
     (l.gap ≡ gap_after seen) ×
     (IsPlainFormatter l.initial.f → HasWritten g.W.Write.write_str_gives l.initial.f (row seen) l.f)

@@ -1,9 +1,9 @@
 use Rattle.std.proofs.Common.{◌≡◌, ◌++◌, is_ok, decimal, sym, refl, ap, ◌∙◌, arith, rules}
 use Rattle.std.proofs.Output.{writes_in_calls_nil, has_written_append, has_written_of_eq}
 use Rattle.std.proofs.lemmas.Bool.Decides.{not_from_Decides}
-use Rattle.answers.specs.Texts.{symbols_below}
-use Rattle.answers.proofs.Listing.{gap_after, row, row_more, gap_more, below_with, below_without}
-use Rattle.answers.proofs.answer.ListedDisplay.fmt.Goals as goal
+use Rattle.parts.specs.Sets.{symbols_below}
+use Rattle.parts.proofs.Listing.{gap_after, row, row_more, gap_more, below_with, below_without}
+use Rattle.parts.proofs.symbols.SymbolSetDisplay.fmt.Goals as goal
 
 pub loop-symbol-init : goal.loop-symbol-init
 unfolding symbols_below
@@ -13,7 +13,7 @@ pub loop-symbol-preserved-then-not-has : goal.loop-symbol-preserved-then-not-has
 loop-symbol-preserved-then-not-has g c =
     let inv = c.loop-symbol.invariant in
     let same =
-    below_without c.args.self.now.0.bits c.loop-symbol.symbol-counter (omega arith) (not_from_Decides _ c.has.ensures c.if-not-has.true) in
+    below_without c.args.self.now.bits c.loop-symbol.symbol-counter (omega arith) (not_from_Decides _ c.has.ensures c.if-not-has.true) in
     (inv.0, inv.1 ∙ ap gap_after (sym same), λ plain. has_written_of_eq g.W.Write.write_str_gives _ _ _ _ (ap row (sym same)) (inv.2 plain))
 
 pub loop-symbol-preserved : goal.loop-symbol-preserved
@@ -21,7 +21,7 @@ loop-symbol-preserved g c =
     let took = g.W.Write.write_str_gives in
     let inv = c.loop-symbol.invariant in
     let n = c.loop-symbol.symbol-counter in
-    let bits = c.args.self.now.0.bits in
+    let bits = c.args.self.now.bits in
     let seen = symbols_below n bits in
     let more = below_with bits n (c.has.ensures.0 c.if-not-has.false) in
     let text = ap (λ gap. row seen ++ (gap ++ decimal n)) inv.1 ∙ row_more seen n ∙ ap row (sym more) in (
@@ -36,7 +36,7 @@ loop-symbol-preserved g c =
 pub returns-clause-writes : goal.returns-clause-writes
 returns-clause-writes g c plain ok =
     let took = g.W.Write.write_str_gives in
-    let bits = c.args.self.now.0.bits in
+    let bits = c.args.self.now.bits in
     let all : c.loop-symbol.symbol-counter ≡ 64 = omega arith in
     let opened = c.write_str.ensures.writes plain (ap is_ok c.in_ok-write_str.was) in
     let middle = has_written_of_eq took _ _ _ _ (ap (λ n. row (symbols_below n bits)) all) (c.loop-symbol.invariant.2 opened.plain) in

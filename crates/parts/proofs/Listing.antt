@@ -1,10 +1,9 @@
 -- One symbol more of a set that is listed. Assumes nothing.
 use Rattle.std.proofs.Common.{◌≡◌, ℕ, ◌+◌, ◌<◌, List, [], ◌∷◌, ◌++◌, codes, decimal, sym, refl, ap, ◌∙◌, append-nil, add-one, arith}
-use Rattle.parts.specs.Sets.{In}
 use Rattle.std.specs.List.{join_by}
 use Rattle.std.proofs.lemmas.List.{flat_map_more}
 use Rattle.std.proofs.lemmas.Bool.{cond-true, cond-false, eq-eqb, ne_eqb}
-use Rattle.answers.specs.Texts.{symbols_below}
+use Rattle.parts.specs.Sets.{In, symbols_below}
 
 -- what stands before the next number
 abbrev pub gap_after : List ℕ → List ℕ
