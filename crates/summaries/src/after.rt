@@ -7,7 +7,7 @@ ghost use Rattle.summaries.specs.Orders.{OrderIs};
 use models::model::Model;
 use models::summary::Summary;
 use models::summary::work::work_up;
-use parts::part::MOST_PARTS;
+use parts::part::{MOST_PARTS, Repeats};
 
 /// Can the first symbol come after the second.
 #[derive(Clone, Copy)]
@@ -74,9 +74,9 @@ impl Summary for After {
     }
 
     // two pieces bring a new order, and high 1 alone allows no second one
-    fn count(&self, of: Order, _low: u32, high: u32) -> Order {
+    fn count(&self, of: Order, repeats: Repeats) -> Order {
         Order {
-            after: of.after | (of.first & of.second & (high != 1)),
+            after: of.after | (of.first & of.second & (repeats.high != 1)),
             ..of
         }
     }

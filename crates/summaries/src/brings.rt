@@ -8,7 +8,7 @@ use crate::every::Every;
 use models::model::Model;
 use models::summary::Summary;
 use models::summary::work::work_up;
-use parts::part::MOST_PARTS;
+use parts::part::{MOST_PARTS, Repeats};
 use parts::symbols::SymbolSet;
 
 /// Has every message with a symbol of the first set one of the second.
@@ -68,10 +68,10 @@ impl Summary for Brings {
     }
 
     // a message that breaks it, repeated, still does
-    fn count(&self, of: Brought, low: u32, high: u32) -> Brought {
+    fn count(&self, of: Brought, repeats: Repeats) -> Brought {
         Brought {
             brings: of.brings,
-            every: self.second.count(of.every, low, high),
+            every: self.second.count(of.every, repeats),
         }
     }
 

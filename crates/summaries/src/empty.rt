@@ -8,11 +8,11 @@ ghost use Rattle.summaries.specs.Empties.{EmptyCount};
 use models::model::Model;
 use models::summary::Summary;
 use models::summary::work::work_up;
-use parts::part::MOST_PARTS;
+use parts::part::{MOST_PARTS, Repeats};
 
 /// Yes exactly where the empty message fits.
 #[derive(Clone, Copy)]
-pub struct EmptyFits {}
+pub struct EmptyFits;
 
 impl Summary for EmptyFits {
     type Value = bool;
@@ -40,7 +40,7 @@ impl Summary for EmptyFits {
     }
 
     // a count repeats at least once, and nothing repeated is nothing
-    fn count(&self, of: bool, _low: u32, _high: u32) -> bool {
+    fn count(&self, of: bool, _repeats: Repeats) -> bool {
         of
     }
 
@@ -55,5 +55,5 @@ pub fn empty_fits(model: &Model<'_>) -> bool
     ensures counts { EmptyCount }
 {
     let mut work = [false; MOST_PARTS];
-    work_up(&EmptyFits {}, model, &mut work)
+    work_up(&EmptyFits, model, &mut work)
 }

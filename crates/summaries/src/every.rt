@@ -7,7 +7,7 @@ ghost use Rattle.summaries.specs.Always.{EveryHas};
 use models::model::Model;
 use models::summary::Summary;
 use models::summary::work::work_up;
-use parts::part::MOST_PARTS;
+use parts::part::{MOST_PARTS, Repeats};
 use parts::symbols::SymbolSet;
 
 /// Does every message have a symbol of the set, and does every nonempty one.
@@ -43,7 +43,7 @@ impl Summary for Every {
     }
 
     // a message without the set's symbols, repeated, is still without
-    fn count(&self, of: (bool, bool), _low: u32, _high: u32) -> (bool, bool) {
+    fn count(&self, of: (bool, bool), _repeats: Repeats) -> (bool, bool) {
         of
     }
 

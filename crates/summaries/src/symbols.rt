@@ -6,12 +6,12 @@ ghost use Rattle.summaries.specs.SymbolsOf.{SymbolsAre, StandingAre};
 use models::model::Model;
 use models::summary::Summary;
 use models::summary::work::work_up;
-use parts::part::MOST_PARTS;
+use parts::part::{MOST_PARTS, Repeats};
 use parts::symbols::SymbolSet;
 
 /// The symbols that messages have.
 #[derive(Clone, Copy)]
-pub struct Symbols {}
+pub struct Symbols;
 
 impl Summary for Symbols {
     type Value = SymbolSet;
@@ -38,7 +38,7 @@ impl Summary for Symbols {
         left.union(right)
     }
 
-    fn count(&self, of: SymbolSet, _low: u32, _high: u32) -> SymbolSet {
+    fn count(&self, of: SymbolSet, _repeats: Repeats) -> SymbolSet {
         of
     }
 
@@ -54,5 +54,5 @@ pub fn symbols_of(model: &Model<'_>) -> SymbolSet
     ensures standing { StandingAre (tree_of model.now) result.bits }
 {
     let mut work = [SymbolSet::EMPTY; MOST_PARTS];
-    work_up(&Symbols {}, model, &mut work)
+    work_up(&Symbols, model, &mut work)
 }
