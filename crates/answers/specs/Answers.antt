@@ -1,10 +1,11 @@
 -- What a call answers, by the definitions of the library. Assumes nothing.
-use Rattle.std.specs.Prelude.{◌≡◌, Bool, List, [], length, Ok, Err, vec_items, Decides, Option}
+use Rattle.std.specs.Prelude.{◌≡◌, Bool, List, [], length, Ok, Err, vec_items, Decides, Option, Result}
 use Rattle.models.specs.Conflicts.{first_conflict_of}
 use Rattle.models.specs.Messages.{HasOneOf}
 use Rattle.models.specs.Sheets.{table_answer}
 use Rattle.models.specs.Trees.{Tree, Fits}
-use Rattle.parts.specs.Refusals.{Notice}
+use Rattle.parts.specs.Refusals.{notice}
+use Rattle.parts.specs.declared.refusal.Refusal.{Refusal}
 use Rattle.parts.specs.declared.part.Part.{Part}
 use Rattle.summaries.specs.Always.{Always, EveryHas}
 use Rattle.occurrences.specs.Figures.{FewestIs, MostIs}
@@ -12,10 +13,8 @@ use Rattle.summaries.specs.Orders.{Reverses}
 use Rattle.summaries.specs.SymbolsOf.{SymbolsAre}
 use Rattle.occurrences.specs.declared.figure.Figure.{Figure}
 use Rattle.occurrences.specs.declared.figure.Most.{Most}
-use Rattle.answers.specs.declared.answer.Answer.{Answer}
-use Rattle.answers.specs.declared.answer.Answer.TheVariants.{Refused, Model, Reply}
-use Rattle.answers.specs.declared.answer.Facts.{Facts}
-use Rattle.answers.specs.declared.reply.Reply as replies
+use Rattle.answers.specs.declared.facts.Facts.{Facts}
+use Rattle.answers.specs.declared.reply.Reply.{Reply}
 use Rattle.answers.specs.declared.reply.Reply.TheVariants as reply
 use Rattle.script.specs.declared.call.Call.{Call}
 use Rattle.script.specs.declared.call.Call.TheVariants.{Check, Ask}
@@ -28,31 +27,22 @@ FactsOf ps t f =
     (f.parts ≡ length ps) × SymbolsAre t f.symbols.bits × Decides f.empty (Fits t []) × (f.conflict ≡ first_conflict_of t)
 
 -- what a model whose tree is t replies to a question
-abbrev pub Replied : Question → Tree → replies.Reply → Type 0
+abbrev pub Replied : Question → Tree → Reply → Type 0
 Replied (Every set) t r = (every : Bool) × (nonempty : Bool) × (r ≡ reply.Every every nonempty) × EveryHas set.bits t (every, nonempty)
 Replied (Occurs s) t r = (fewest : Option Figure) × (most : Most) × (r ≡ reply.Occurs fewest most) × FewestIs s t fewest × MostIs s t most
 Replied (Brings a b) t r =
     (brings : Bool) × (r ≡ reply.Brings brings) × Always brings (λ m. Fits t m × HasOneOf a.bits m) (HasOneOf b.bits)
 Replied (After a b) t r = (after : Bool) × (r ≡ reply.After after) × Decides after (Reverses t a b)
 
--- the answer tells the refusal's number, layer and place
-abbrev pub RefusedBy : Notice → Answer → Type 0
-RefusedBy n (Refused number layer place) = n ≡ record { number = number; layer = layer; place = place }
-RefusedBy n (Model facts) = ⊥
-RefusedBy n (Reply r) = ⊥
+-- the answer about these parts: the refusal of the table, or a reply that holds of its tree
+abbrev pub Answered : List Part → (Tree → Reply → Type 0) → Result Reply Refusal → Type 0
+Answered ps Holds (Err refusal) = table_answer ps ≡ Err (notice refusal)
+Answered ps Holds (Ok r) = (t : Tree) × (table_answer ps ≡ Ok t) × Holds t r
 
--- the answer to a check of these parts
-abbrev pub CheckAnswered : List Part → Answer → Type 0
-CheckAnswered ps (Refused number layer place) = table_answer ps ≡ Err (record { number = number; layer = layer; place = place })
-CheckAnswered ps (Model facts) = (t : Tree) × (table_answer ps ≡ Ok t) × FactsOf ps t facts
-CheckAnswered ps (Reply r) = ⊥
+-- the reply says what is so of the model of these parts
+abbrev pub Described : List Part → Tree → Reply → Type 0
+Described ps t r = (facts : Facts) × (r ≡ reply.Model facts) × FactsOf ps t facts
 
--- the answer to a question to the model of these parts
-abbrev pub AskAnswered : Question → List Part → Answer → Type 0
-AskAnswered q ps (Refused number layer place) = table_answer ps ≡ Err (record { number = number; layer = layer; place = place })
-AskAnswered q ps (Model facts) = ⊥
-AskAnswered q ps (Reply r) = (t : Tree) × (table_answer ps ≡ Ok t) × Replied q t r
-
-abbrev pub CallAnswered : Call → Answer → Type 0
-CallAnswered (Check parts) a = CheckAnswered (vec_items parts) a
-CallAnswered (Ask question parts) a = AskAnswered question (vec_items parts) a
+abbrev pub CallAnswered : Call → Result Reply Refusal → Type 0
+CallAnswered (Check parts) a = Answered (vec_items parts) (Described (vec_items parts)) a
+CallAnswered (Ask question parts) a = Answered (vec_items parts) (Replied question) a

@@ -1,8 +1,9 @@
-//! What a call answers (`answer`), what a model replies to a question (`reply`),
-//! and the text of both.
+//! What a call answers (`answer`): a refusal, or what a model replies (`reply`), which may be
+//! what is said of the model itself (`facts`).
 
 #![tactic(auto)]
 
 pub mod answer;
+pub mod facts;
 pub mod reply;
 mod text;

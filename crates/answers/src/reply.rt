@@ -1,9 +1,10 @@
-//! What a model replies to a question, and how a reply is printed.
+//! What a model replies to a call, and how a reply is printed.
 ghost use Rattle.models.specs.Checked.{tree_of};
 ghost use Rattle.std.specs.Prelude.{Some};
 ghost use Rattle.answers.specs.Answers.{Replied};
-ghost use Rattle.answers.specs.Texts.{figure_said, fewest_said, most_said, reply_said};
+ghost use Rattle.answers.specs.Texts.{fewest_said, reply_said};
 
+use crate::facts::Facts;
 use crate::text::yes_or_no;
 use models::model::Model;
 use occurrences::figure::{Figure, Most};
@@ -14,9 +15,11 @@ use summaries::after::order_of;
 use summaries::brings::brings_of;
 use summaries::every::every_of;
 
-/// What a model replies to a question.
+/// What a model replies.
 #[derive(Clone, Copy)]
 pub enum Reply {
+    /// What is said of the model itself.
+    Model(Facts),
     /// Whether every message, and every nonempty one, has a symbol of the set.
     Every { every: bool, nonempty: bool },
     /// The fewest and the most occurrences of the symbol.
@@ -57,14 +60,14 @@ impl fmt::Display for Reply {
 
     fn fmt<W: fmt::Write>(&self, f: &mut fmt::Formatter<W>) -> fmt::Result {
         match self {
+            Reply::Model(facts) => write!(f, "{facts}"),
             Reply::Every { every, nonempty } => {
                 let every = yes_or_no(*every);
                 let nonempty = yes_or_no(*nonempty);
                 write!(f, "every {every}, nonempty {nonempty}")
             }
             Reply::Occurs { fewest, most } => {
-                let fewest = FewestText(*fewest);
-                let most = MostText(*most);
+                let fewest = Fewest(*fewest);
                 write!(f, "fewest {fewest}, most {most}")
             }
             Reply::Brings(answer) | Reply::After(answer) => f.write_str(yes_or_no(*answer)),
@@ -72,53 +75,17 @@ impl fmt::Display for Reply {
     }
 }
 
-/// The fewest occurrences, to be printed.
+/// The fewest occurrences, to be printed: an `Option` has no text of its own.
 #[derive(Clone, Copy)]
-struct FewestText(Option<Figure>);
+struct Fewest(Option<Figure>);
 
-impl fmt::Display for FewestText {
+impl fmt::Display for Fewest {
     ghost output = { λ x. Some (fewest_said x.0) };
 
     fn fmt<W: fmt::Write>(&self, f: &mut fmt::Formatter<W>) -> fmt::Result {
         match self.0 {
-            Some(figure) => {
-                let figure = FigureText(figure);
-                write!(f, "{figure}")
-            }
+            Some(figure) => write!(f, "{figure}"),
             None => f.write_str("none"),
-        }
-    }
-}
-
-/// The most occurrences, to be printed.
-#[derive(Clone, Copy)]
-struct MostText(Most);
-
-impl fmt::Display for MostText {
-    ghost output = { λ x. Some (most_said x.0) };
-
-    fn fmt<W: fmt::Write>(&self, f: &mut fmt::Formatter<W>) -> fmt::Result {
-        match self.0 {
-            Most::Ends(figure) => {
-                let figure = FigureText(figure);
-                write!(f, "{figure}")
-            }
-            Most::NoEnd => f.write_str("no end"),
-        }
-    }
-}
-
-/// A number of occurrences, to be printed.
-#[derive(Clone, Copy)]
-struct FigureText(Figure);
-
-impl fmt::Display for FigureText {
-    ghost output = { λ x. Some (figure_said x.0) };
-
-    fn fmt<W: fmt::Write>(&self, f: &mut fmt::Formatter<W>) -> fmt::Result {
-        match self.0 {
-            Figure::Exactly(number) => write!(f, "{number}"),
-            Figure::Above => f.write_str("above 10000"),
         }
     }
 }

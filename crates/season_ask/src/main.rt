@@ -1,20 +1,12 @@
-//! Answers the calls of a script, one to a line: `check` and `ask`. Unfinished: it is
-//! to take the place of `season`, which has `check` alone.
+//! Answers the calls of a script, one to a line: `check` and `ask`. It is to take the place
+//! of `season`, which has `check` alone.
 
 #![tactic(auto)]
 
-ghost use Rattle.std.specs.Prelude.{◌≡◌, OnOk, OnErr};
-ghost use Rattle.std.specs.Process.{exit_status};
-
-mod failure;
-mod words;
-
-use answers::answer::answer_call;
-use failure::Failure;
-use script::call::Call;
+use runner::failure::finish;
+use runner::program::Program;
+use script::call::Calls;
 use std::process::ExitCode;
-use std::{env, fs, io};
-use words::Words;
 
 const USAGE: &str = "\
 usage: season [FILE]
@@ -44,71 +36,11 @@ examples:
 A line that is no call ends the run with a message and status 1.
 ";
 
+const PROGRAM: Program = Program {
+    usage: USAGE,
+    calls: Calls::CheckAndAsk,
+};
+
 fn main(rt: HostRuntime) -> ExitCode {
-    let outcome = run(&rt);
-    let status = status_of(&outcome);
-    if let Err(failure) = outcome {
-        // a message that cannot be written changes nothing in the status
-        let _ = eprintln!(rt; "{failure}");
-    }
-    status
-}
-
-// What the program ends with. An error that `main` returned would be printed once more.
-fn status_of(outcome: &Result<(), Failure>) -> ExitCode
-    ensures whole { OnOk outcome.now (exit_status result ≡ 0) }
-    ensures early { OnErr outcome.now (exit_status result ≡ 1) }
-{
-    match outcome {
-        Ok(()) => ExitCode::SUCCESS,
-        Err(_) => ExitCode::FAILURE,
-    }
-}
-
-fn run(rt: &HostRuntime) -> Result<(), Failure> {
-    let mut args = env::args(rt)?;
-    let _program = args.next();
-    let path = args.next();
-    if args.next().is_some() {
-        return Err(Failure::TooManyArguments);
-    }
-    match path {
-        None => answer_input(rt),
-        Some(path) if path.as_str() == "--help" => Ok(rt.print(USAGE)?),
-        Some(path) => answer_file(rt, path),
-    }
-}
-
-fn answer_input(rt: &HostRuntime) -> Result<(), Failure> {
-    match io::read_to_string(rt.alloc(), rt.stdin()) {
-        Ok(text) => answer_script(rt, text.as_str()),
-        Err(error) => Err(Failure::BadInput { error }),
-    }
-}
-
-fn answer_file(rt: &HostRuntime, path: String) -> Result<(), Failure> {
-    match fs::read_to_string(rt, path.as_str()) {
-        Ok(text) => answer_script(rt, text.as_str()),
-        Err(error) => Err(Failure::BadFile { path, error }),
-    }
-}
-
-fn answer_script(rt: &HostRuntime, text: &str) -> Result<(), Failure> {
-    let heap = rt.alloc();
-    for (place, line) in text.lines().enumerate() {
-        match Call::read(heap, line) {
-            Ok(None) => {}
-            Ok(Some(call)) => {
-                let words = Words(line);
-                let answer = answer_call(&call);
-                println!(rt; "{words}: {answer}")?;
-            }
-            Err(error) => {
-                let reason = format!(in heap; "{error}")?;
-                let number = place + 1;
-                return Err(Failure::BadLine { number, reason });
-            }
-        }
-    }
-    Ok(())
+    finish(&rt, PROGRAM.run(&rt))
 }

@@ -1,0 +1,12 @@
+-- What is said where a run ended early. Assumes nothing.
+use Rattle.std.specs.Prelude.{ℕ, List, ◌++◌, Some, None, string_bytes, codes, decimal, Option}
+use Rattle.runner.specs.declared.failure.Failure.{Failure}
+use Rattle.runner.specs.declared.failure.Failure.TheVariants.{TooManyArguments, BadFile, BadInput, BadLine, Io}
+
+-- what the system says of an error is not known
+abbrev pub failure_said : Failure → Option (List ℕ)
+failure_said TooManyArguments = Some (codes "expected one argument at most, the file of a script")
+failure_said (BadFile path error) = None
+failure_said (BadInput error) = None
+failure_said (BadLine number reason) = Some (codes "line " ++ (decimal number ++ (codes ": " ++ string_bytes reason)))
+failure_said (Io error) = None

@@ -1,0 +1,69 @@
+//! Why a run ended early, what is said of it, and the status that a run ends with.
+ghost use Rattle.std.specs.Prelude.{◌≡◌, OnOk, OnErr};
+ghost use Rattle.std.specs.Process.{exit_status};
+ghost use Rattle.runner.specs.Failures.{failure_said};
+
+use std::alloc::AllocError;
+use std::process::ExitCode;
+use std::{fmt, io};
+
+/// Why a run ended early. The reason of a bad line is text, since it outlives the script.
+#[derive(Drop)]
+pub enum Failure {
+    TooManyArguments,
+    BadFile { path: String, error: io::Error },
+    BadInput { error: io::Error },
+    BadLine { number: usize, reason: String },
+    Io { error: io::Error },
+}
+
+impl From<io::Error> for Failure {
+    fn from(error: io::Error) -> Failure {
+        Failure::Io { error }
+    }
+}
+
+impl From<AllocError> for Failure {
+    fn from(error: AllocError) -> Failure {
+        let error = error.into();
+        Failure::Io { error }
+    }
+}
+
+impl fmt::Display for Failure {
+    ghost output = { λ e. failure_said e };
+
+    fn fmt<W: fmt::Write>(&self, f: &mut fmt::Formatter<W>) -> fmt::Result {
+        match self {
+            Failure::TooManyArguments => {
+                write!(f, "expected one argument at most, the file of a script")
+            }
+            Failure::BadFile { path, error } => {
+                write!(f, "expected a script of UTF-8 text in {path}: {error}")
+            }
+            Failure::BadInput { error } => {
+                write!(
+                    f,
+                    "expected a script of UTF-8 text on standard input: {error}"
+                )
+            }
+            Failure::BadLine { number, reason } => write!(f, "line {number}: {reason}"),
+            Failure::Io { error } => write!(f, "{error}"),
+        }
+    }
+}
+
+/// Says on standard error why a run ended early, if it did, and gives the status: 1 then, else 0.
+pub fn finish(rt: &HostRuntime, outcome: Result<(), Failure>) -> ExitCode
+    ensures whole { OnOk outcome (exit_status result ≡ 0) }
+    ensures early { OnErr outcome (exit_status result ≡ 1) }
+{
+    match outcome {
+        Ok(()) => ExitCode::SUCCESS,
+        Err(failure) => {
+            // a message that cannot be written changes nothing in the status
+            let _ = eprintln!(rt; "{failure}");
+            ExitCode::FAILURE
+        }
+    }
+}

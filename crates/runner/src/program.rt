@@ -1,0 +1,68 @@
+//! A program that answers the calls of a script, one to a line.
+use crate::failure::Failure;
+use crate::words::Words;
+use answers::answer::answer_call;
+use script::call::{Call, Calls};
+use std::{env, fs, io};
+
+/// What one program has of its own.
+#[derive(Clone, Copy)]
+pub struct Program {
+    /// The text of `--help`.
+    pub usage: &'static str,
+    /// The calls that it takes.
+    pub calls: Calls,
+}
+
+impl Program {
+    /// Answers the script that the arguments name, or that of standard input.
+    pub fn run(&self, rt: &HostRuntime) -> Result<(), Failure> {
+        let mut args = env::args(rt)?;
+        let _program = args.next();
+        let path = args.next();
+        if args.next().is_some() {
+            return Err(Failure::TooManyArguments);
+        }
+        match path {
+            None => self.answer_input(rt),
+            Some(path) if path.as_str() == "--help" => Ok(rt.print(self.usage)?),
+            Some(path) => self.answer_file(rt, path),
+        }
+    }
+
+    fn answer_input(&self, rt: &HostRuntime) -> Result<(), Failure> {
+        match io::read_to_string(rt.alloc(), rt.stdin()) {
+            Ok(text) => self.answer_script(rt, text.as_str()),
+            Err(error) => Err(Failure::BadInput { error }),
+        }
+    }
+
+    fn answer_file(&self, rt: &HostRuntime, path: String) -> Result<(), Failure> {
+        match fs::read_to_string(rt, path.as_str()) {
+            Ok(text) => self.answer_script(rt, text.as_str()),
+            Err(error) => Err(Failure::BadFile { path, error }),
+        }
+    }
+
+    fn answer_script(&self, rt: &HostRuntime, text: &str) -> Result<(), Failure> {
+        let heap = rt.alloc();
+        for (place, line) in text.lines().enumerate() {
+            match Call::read(heap, self.calls, line) {
+                Ok(None) => {}
+                Ok(Some(call)) => {
+                    let words = Words(line);
+                    match answer_call(&call) {
+                        Ok(reply) => println!(rt; "{words}: {reply}")?,
+                        Err(refusal) => println!(rt; "{words}: {refusal}")?,
+                    }
+                }
+                Err(error) => {
+                    let reason = format!(in heap; "{error}")?;
+                    let number = place + 1;
+                    return Err(Failure::BadLine { number, reason });
+                }
+            }
+        }
+        Ok(())
+    }
+}

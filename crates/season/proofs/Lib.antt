@@ -1,4 +1,0 @@
-pub mod Digits
-pub mod Fields
-pub mod Listing
-pub mod Words

@@ -1,4 +1,0 @@
-pub mod Answers
-pub mod Lines
-pub mod Reads
-pub mod Texts
