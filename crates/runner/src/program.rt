@@ -2,7 +2,8 @@
 use crate::failure::Failure;
 use crate::words::Words;
 use answers::answer::answer_call;
-use script::call::{Call, Calls};
+use script::call::Call;
+use script::calls::Calls;
 use std::{env, fs, io};
 
 /// What one program has of its own.

@@ -1,5 +1,6 @@
 -- What is said of a line that is no call. Assumes nothing.
 use Rattle.std.specs.Prelude.{ℕ, List, [], ◌∷◌, ◌++◌, codes, decimal}
+use Rattle.script.specs.Calls.{calls_said}
 use Rattle.script.specs.declared.error.LineError.{LineError}
 use Rattle.script.specs.declared.error.LineError.TheVariants.{NoSuchCall, NoSuchQuestion, NotSet, NotSymbol, NotColon, NotPart, Memory}
 
@@ -9,7 +10,7 @@ word_or_end [] = codes "the end of the line"
 word_or_end (b ∷ bs) = b ∷ bs
 
 abbrev pub complaint : LineError → List ℕ
-complaint (NoSuchCall name) = codes "no such call: " ++ (name.now ++ codes " (calls: check, ask)")
+complaint (NoSuchCall name calls) = codes "no such call: " ++ (name.now ++ (codes " (calls: " ++ (calls_said calls ++ codes ")")))
 complaint (NoSuchQuestion name) = codes "expected a question (every, occurs, brings, after), and not: " ++ word_or_end name.now
 complaint (NotSet word) = codes "expected a set of symbols, as 0,1 or -, and not: " ++ word_or_end word.now
 complaint (NotSymbol word) = codes "expected a symbol, and not: " ++ word_or_end word.now

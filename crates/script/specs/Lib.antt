@@ -1,3 +1,4 @@
+pub mod Calls
 pub mod Complaints
 pub mod Lines
 pub mod Questions

@@ -1,8 +1,9 @@
 //! From a line of a script to the call that it makes, or to what is wrong with it.
-ghost use Rattle.std.specs.Prelude.{codes, MatchResult};
+ghost use Rattle.std.specs.Prelude.{MatchResult};
 ghost use Rattle.std.specs.Str.Iter.{split_whitespace_rest};
-ghost use Rattle.script.specs.Lines.{AllParts, NotParts, CallRead, LineRead};
+ghost use Rattle.script.specs.Lines.{AllParts, NotParts, AllAsk, NotAsk, CallRead, LineRead};
 
+use crate::calls::Calls;
 use crate::error::LineError;
 use crate::question::{Question, next_colon, next_question};
 use crate::read;
@@ -26,9 +27,13 @@ pub enum Call {
 }
 
 impl Call {
-    /// The call that a line makes; a comment and a line of blanks make none.
-    pub fn read<'a>(heap: Global, line: &'a str) -> Result<Option<Call>, LineError<'a>>
-        ensures { LineRead line.now result }
+    /// Of these calls, the one that a line makes; a comment and a line of blanks make none.
+    pub fn read<'a>(
+        heap: Global,
+        calls: Calls,
+        line: &'a str,
+    ) -> Result<Option<Call>, LineError<'a>>
+        ensures { LineRead calls line.now result }
     {
         if line.starts_with('#') {
             return Ok(None);
@@ -37,36 +42,43 @@ impl Call {
         let Some(name) = words.next() else {
             return Ok(None);
         };
-        Ok(Some(Call::named(heap, name, words)?))
+        Ok(Some(Call::named(heap, calls, name, words)?))
     }
 
     /// The call of a name and the words after it.
     fn named<'a>(
         heap: Global,
+        calls: Calls,
         name: &'a str,
         words: SplitWhitespace<'a>,
     ) -> Result<Call, LineError<'a>>
-        ensures { CallRead name.now (split_whitespace_rest words.entry) result }
+        ensures { CallRead calls name.now (split_whitespace_rest words.entry) result }
     {
         match name {
             "check" => {
                 let parts = all_parts(heap, words)?;
                 Ok(Call::Check { parts })
             }
-            "ask" => ask(heap, words),
-            _ => Err(LineError::NoSuchCall { name }),
+            "ask" if calls.has_ask() => {
+                let (question, parts) = ask(heap, words)?;
+                Ok(Call::Ask { question, parts })
+            }
+            _ => Err(LineError::NoSuchCall { name, calls }),
         }
     }
 }
 
 /// The words after `ask` are a question, a colon and the parts.
-fn ask<'a>(heap: Global, mut words: SplitWhitespace<'a>) -> Result<Call, LineError<'a>>
-    ensures { CallRead (codes "ask") (split_whitespace_rest words.entry) result }
+fn ask<'a>(
+    heap: Global,
+    mut words: SplitWhitespace<'a>,
+) -> Result<(Question, Vec<Part>), LineError<'a>>
+    ensures { MatchResult result (λ r. AllAsk (split_whitespace_rest words.entry) r.0 r.1.items) (NotAsk (split_whitespace_rest words.entry)) }
 {
     let question = next_question(&mut words)?;
     next_colon(&mut words)?;
     let parts = all_parts(heap, words)?;
-    Ok(Call::Ask { question, parts })
+    Ok((question, parts))
 }
 
 /// The parts that all the words write.

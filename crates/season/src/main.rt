@@ -4,7 +4,7 @@
 
 use runner::failure::finish;
 use runner::program::Program;
-use script::call::Calls;
+use script::calls::Calls;
 use std::process::ExitCode;
 
 const USAGE: &str = "\
@@ -26,7 +26,7 @@ A line that is no call ends the run with a message and status 1.
 
 const PROGRAM: Program = Program {
     usage: USAGE,
-    calls: Calls::Check,
+    calls: Calls::CheckOnly,
 };
 
 fn main(rt: HostRuntime) -> ExitCode {

@@ -5,7 +5,7 @@
 
 use runner::failure::finish;
 use runner::program::Program;
-use script::call::Calls;
+use script::calls::Calls;
 use std::process::ExitCode;
 
 const USAGE: &str = "\
