@@ -1,3 +1,4 @@
 pub mod Fronts
+pub mod Joining
 pub mod Listing
 pub mod SymbolSets

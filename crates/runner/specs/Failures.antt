@@ -10,3 +10,11 @@ failure_said (BadFile path error) = None
 failure_said (BadInput error) = None
 failure_said (BadLine number reason) = Some (codes "line " ++ (decimal number ++ (codes ": " ++ string_bytes reason)))
 failure_said (Io error) = None
+
+-- what comes of an error of reading or writing, or of memory that ran out
+abbrev pub IsIo : Failure → Type 0
+IsIo TooManyArguments = ⊥
+IsIo (BadFile path error) = ⊥
+IsIo (BadInput error) = ⊥
+IsIo (BadLine number reason) = ⊥
+IsIo (Io error) = Unit {0}

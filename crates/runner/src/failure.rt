@@ -1,7 +1,7 @@
 //! Why a run ended early, what is said of it, and the status that a run ends with.
 ghost use Rattle.std.specs.Prelude.{◌≡◌, OnOk, OnErr};
 ghost use Rattle.std.specs.Process.{exit_status};
-ghost use Rattle.runner.specs.Failures.{failure_said};
+ghost use Rattle.runner.specs.Failures.{failure_said, IsIo};
 
 use std::alloc::AllocError;
 use std::process::ExitCode;
@@ -18,12 +18,16 @@ pub enum Failure {
 }
 
 impl From<io::Error> for Failure {
+    ghost from_gives = { λ _ failure. IsIo failure };
+
     fn from(error: io::Error) -> Failure {
         Failure::Io { error }
     }
 }
 
 impl From<AllocError> for Failure {
+    ghost from_gives = { λ _ failure. IsIo failure };
+
     fn from(error: AllocError) -> Failure {
         let error = error.into();
         Failure::Io { error }

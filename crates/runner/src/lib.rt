@@ -4,6 +4,7 @@
 
 #![tactic(auto)]
 
+pub mod answering;
 pub mod failure;
 pub mod program;
-mod words;
+mod writing;

@@ -1,8 +1,6 @@
 //! A program that answers the calls of a script, one to a line.
+use crate::answering::answer_script;
 use crate::failure::Failure;
-use crate::words::Words;
-use answers::answer::answer_call;
-use script::call::Call;
 use script::calls::Calls;
 use std::{env, fs, io};
 
@@ -33,37 +31,19 @@ impl Program {
 
     fn answer_input(&self, rt: &HostRuntime) -> Result<(), Failure> {
         match io::read_to_string(rt.alloc(), rt.stdin()) {
-            Ok(text) => self.answer_script(rt, text.as_str()),
+            Ok(text) => self.answer(rt, text.as_str()),
             Err(error) => Err(Failure::BadInput { error }),
         }
     }
 
     fn answer_file(&self, rt: &HostRuntime, path: String) -> Result<(), Failure> {
         match fs::read_to_string(rt, path.as_str()) {
-            Ok(text) => self.answer_script(rt, text.as_str()),
+            Ok(text) => self.answer(rt, text.as_str()),
             Err(error) => Err(Failure::BadFile { path, error }),
         }
     }
 
-    fn answer_script(&self, rt: &HostRuntime, text: &str) -> Result<(), Failure> {
-        let heap = rt.alloc();
-        for (place, line) in text.lines().enumerate() {
-            match Call::read(heap, self.calls, line) {
-                Ok(None) => {}
-                Ok(Some(call)) => {
-                    let words = Words(line);
-                    match answer_call(&call) {
-                        Ok(reply) => println!(rt; "{words}: {reply}")?,
-                        Err(refusal) => println!(rt; "{words}: {refusal}")?,
-                    }
-                }
-                Err(error) => {
-                    let reason = format!(in heap; "{error}")?;
-                    let number = place + 1;
-                    return Err(Failure::BadLine { number, reason });
-                }
-            }
-        }
-        Ok(())
+    fn answer(&self, rt: &HostRuntime, text: &str) -> Result<(), Failure> {
+        answer_script(rt.alloc(), self.calls, text, &mut rt.stdout())
     }
 }

@@ -1,0 +1,78 @@
+-- What is written for a script, line after line. Assumes nothing.
+use Rattle.std.specs.Prelude.{◌≡◌, ℕ, ◌+◌, ◌⊎◌, List, [], ◌∷◌, ◌++◌, length, Some, None, Ok, Err, string_bytes, codes, Option, Result}
+use Rattle.std.specs.Char.{is_not_whitespace}
+use Rattle.std.specs.Io.KnownBytes.{Appends}
+use Rattle.std.specs.List.{join_by}
+use Rattle.std.specs.Str.{NoCharPasses}
+use Rattle.parts.specs.Refusals.{notice, refusal_said}
+use Rattle.parts.specs.declared.refusal.Refusal.{Refusal}
+use Rattle.script.specs.Complaints.{complaint}
+use Rattle.script.specs.Lines.{LineRead}
+use Rattle.script.specs.Words.{Begins}
+use Rattle.script.specs.declared.call.Call.{Call}
+use Rattle.script.specs.declared.calls.Calls.{Calls}
+use Rattle.script.specs.declared.error.LineError.{LineError}
+use Rattle.answers.specs.Answers.{CallAnswered}
+use Rattle.answers.specs.Texts.{reply_said}
+use Rattle.answers.specs.declared.reply.Reply.{Reply}
+use Rattle.runner.specs.declared.failure.Failure.{Failure}
+use Rattle.runner.specs.declared.failure.Failure.TheVariants.{TooManyArguments, BadFile, BadInput, BadLine, Io}
+
+-- the words of a line
+abbrev pub WordsAre : List ℕ → List (List ℕ) → Type 0
+WordsAre line ws = (rest : List ℕ) × Begins line ws rest × NoCharPasses is_not_whitespace rest
+
+-- words with one space between two
+abbrev pub spaced : List (List ℕ) → List ℕ
+spaced ws = join_by (λ w. w) (codes " ") ws
+
+-- what is said of an answer
+abbrev pub answer_said : Result Reply Refusal → List ℕ
+answer_said (Ok reply) = reply_said reply
+answer_said (Err refusal) = refusal_said (notice refusal)
+
+-- what goes to a call: the words of its line, a colon, the answer, and the end of the line, which is 10
+abbrev pub CallSaid : List ℕ → Call → List ℕ → Type 0
+CallSaid line call said =
+    (ws : List (List ℕ)) × (answer : Result Reply Refusal) × WordsAre line ws × CallAnswered call answer
+    × (said ≡ spaced ws ++ (codes ": " ++ (answer_said answer ++ (10 ∷ []))))
+
+-- what goes to a line: nothing where it makes no call
+abbrev pub LineSaid : Calls → List ℕ → List ℕ → Type 0
+LineSaid calls line said =
+    (LineRead calls line (Ok None) × (said ≡ []))
+    ⊎ ((call : Call) × LineRead calls line (Ok (Some call)) × CallSaid line call said)
+
+-- what goes to lines, one after another
+abbrev pub Said : Calls → List (List ℕ) → List ℕ → Type 0
+Said calls [] said = said ≡ []
+Said calls (line ∷ lines) said =
+    (first : List ℕ) × (others : List ℕ) × (said ≡ first ++ others) × LineSaid calls line first × Said calls lines others
+
+-- the line is no call, and the reason says what is wrong with it
+abbrev pub IsBad : Calls → List ℕ → List ℕ → Type 0
+IsBad calls line reason = (error : LineError) × LineRead calls line (Err error) × (reason ≡ complaint error)
+
+-- old grows to new by what goes to the lines
+abbrev pub Answered : Calls → List (List ℕ) → Option (List ℕ) → Option (List ℕ) → Type 0
+Answered calls lines old new = (said : List ℕ) × Said calls lines said × Appends old new said
+
+-- a line is answered, or it is bad and nothing is written
+abbrev pub LineWritten : Calls → ℕ → List ℕ → Option (List ℕ) → Option (List ℕ) → Result (Unit {0}) Failure → Type 0
+LineWritten calls n line old new (Ok u) = Answered calls (line ∷ []) old new
+LineWritten calls n line old new (Err TooManyArguments) = ⊥
+LineWritten calls n line old new (Err (BadFile path error)) = ⊥
+LineWritten calls n line old new (Err (BadInput error)) = ⊥
+LineWritten calls n line old new (Err (BadLine number reason)) = (number ≡ n) × IsBad calls line (string_bytes reason) × Appends old new []
+LineWritten calls n line old new (Err (Io error)) = Unit {0}
+
+-- the lines are all answered, or those before the first bad one are, which the failure numbers from 1
+abbrev pub ScriptWritten : Calls → List (List ℕ) → Option (List ℕ) → Option (List ℕ) → Result (Unit {0}) Failure → Type 0
+ScriptWritten calls lines old new (Ok u) = Answered calls lines old new
+ScriptWritten calls lines old new (Err TooManyArguments) = ⊥
+ScriptWritten calls lines old new (Err (BadFile path error)) = ⊥
+ScriptWritten calls lines old new (Err (BadInput error)) = ⊥
+ScriptWritten calls lines old new (Err (BadLine number reason)) =
+    (before : List (List ℕ)) × (line : List ℕ) × (after : List (List ℕ)) × (lines ≡ before ++ (line ∷ after))
+    × (number ≡ length before + 1) × IsBad calls line (string_bytes reason) × Answered calls before old new
+ScriptWritten calls lines old new (Err (Io error)) = Unit {0}
