@@ -11,7 +11,7 @@ use crate::figure::{Figure, Most};
 use models::model::Model;
 use models::summary::Summary;
 use models::summary::work::work_up;
-use parts::part::MOST_PARTS;
+use parts::part::{MOST_PARTS, Repeats};
 use parts::symbols::SymbolSet;
 use summaries::every::Every;
 
@@ -96,11 +96,11 @@ impl Summary for Occurs {
         }
     }
 
-    fn count(&self, of: Occurring, low: u32, high: u32) -> Occurring {
+    fn count(&self, of: Occurring, repeats: Repeats) -> Occurring {
         Occurring {
-            fewest: fewest_repeated(of, low),
-            most: most_repeated(of.most, high),
-            every: self.every().count(of.every, low, high),
+            fewest: fewest_repeated(of, repeats.low),
+            most: most_repeated(of.most, repeats.high),
+            every: self.every().count(of.every, repeats),
         }
     }
 
