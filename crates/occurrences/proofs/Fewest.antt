@@ -1,5 +1,6 @@
 -- The fewest occurrences of a symbol, kind by kind. Assumes nothing.
-use Rattle.std.proofs.Common.{◌≡◌, ℕ, zero, suc, ◌+◌, ◌*◌, ◌≤◌, min, Bool, true, false, [], ◌∷◌, ◌++◌, Some, None, Option, sym, refl, ap, ◌∙◌, subst, inl, inr, ⊎_elim, mul-le-mul_right, mul-zero, arith}
+use Rattle.std.proofs.Common.{◌≡◌, ℕ, zero, suc, ◌+◌, ◌*◌, ◌≤◌, min, Bool, true, false, [], ◌∷◌, ◌++◌, Some, None, Option, sym, refl, ap, ◌∙◌, subst, ◌⊎◌, inl, inr, ⊎_elim, mul-le-mul_right, mul-zero, arith}
+use Rattle.std.specs.Option.{option_or}
 use native.Mathlib.Nat.{one-le-mul}
 use Rattle.std.proofs.lemmas.Bool.{cases_eq, cases_lt}
 use Rattle.models.specs.Messages.{Message, HasOneOf, Occurs, occurrences}
@@ -110,6 +111,13 @@ side_fewest s l r u mix (Some x) formed none (n, e, h) =
     let lacks : Found s r 0 = (b, g, never s r none b g) in
     let whole = side_least s l r u mix n lacks (λ p q f g some. let right = never s r none q g in omega arith) (is_least s l n h) in
     (n, e, is_fewest s u n whole)
+
+-- one of the sides never has it
+pub lone_fewest : (s : ℕ) (l r u : Tree) → Adds s l r u → Formed l → Formed r → (o p : Option Figure) → (o ≡ None) ⊎ (p ≡ None)
+    → FewestIs s l o → FewestIs s r p → FewestIs s u (option_or o p)
+lone_fewest s l r u mix formed_l formed_r None p lone f g = side_fewest s r l u (flipped s l r u mix) p formed_l f g
+lone_fewest s l r u mix formed_l formed_r (Some x) None lone f g = side_fewest s l r u mix (Some x) formed_r g f
+lone_fewest s l r u mix formed_l formed_r (Some x) (Some y) lone f g = ⊎_elim (λ e. cc) (λ e. cc) lone
 
 -- both sides may have it
 pub both_fewest : (s : ℕ) (l r u : Tree) → Adds s l r u → Formed l → Formed r → (v w : Occurring) (f g h : Figure) → v.fewest ≡ Some f → w.fewest ≡ Some g

@@ -6,9 +6,12 @@ use Rattle.models.specs.Trees.{Tree, Fits, Bounds, Formed}
 use Rattle.models.specs.Trees.Tree.{symbol, choice, count, nonempty}
 use Rattle.models.proofs.Counted.{joined_most}
 use Rattle.models.proofs.Inhabited.{messages, some_message, between_low}
-use Rattle.occurrences.specs.Figures.{IsMost, Endless, MostIs}
+use Rattle.occurrences.specs.Figures.{figure, IsMost, Endless, MostIs}
 use Rattle.occurrences.specs.declared.figure.Most.{Most}
 use Rattle.occurrences.specs.declared.figure.Most.TheVariants.{Ends, NoEnd}
+use Rattle.occurrences.specs.contracts.figure.MostOrd.TheImpl as order
+use Rattle.std.specs.Ordering.{ord_max}
+use Rattle.std.proofs.lemmas.Grind.{common_steps}
 use Rattle.occurrences.proofs.Added.{Found, Adds, mixed, again}
 
 pub symbol_most : (s x n : ℕ) → occurrences s (x ∷ []) ≡ n → IsMost s (symbol x) n
@@ -19,6 +22,21 @@ choice_most s l r a b ((m, f, d), h) ((n, g, e), k) = (
   elim (cases_lt a b) [ inl lt ↦ (n, inr g, omega arith) | inr ge ↦ (m, inl f, omega arith) ],
   λ x fit. ⊎_elim (λ p. let left = h x p in omega arith) (λ q. let right = k x q in omega arith) fit,
 )
+
+abbrev larger : Most → Most → Most
+larger = ord_max (order.ghosts).cmp
+
+larger_figure : (a b : ℕ) → larger (Ends (figure a)) (Ends (figure b)) ≡ Ends (figure (max a b))
+larger_figure a b = grind (arith, common_steps)
+
+-- no end is above each figure
+pub choice_larger : (s : ℕ) (l r : Tree) (v w : Most) → MostIs s l v → MostIs s r w → MostIs s (choice l r) (larger v w)
+choice_larger s l r NoEnd NoEnd f g = λ n. let (m, fit, more) = f n in (m, inl fit, more)
+choice_larger s l r NoEnd (Ends y) f g = λ n. let (m, fit, more) = f n in (m, inl fit, more)
+choice_larger s l r (Ends x) NoEnd f g = λ n. let (m, fit, more) = g n in (m, inr fit, more)
+choice_larger s l r (Ends x) (Ends y) (a, d, h) (b, e, k) =
+    let same : larger (Ends x) (Ends y) ≡ Ends (figure (max a b)) = rw (d, e) (larger_figure a b) in
+    subst (MostIs s (choice l r)) (sym same) (max a b, refl, choice_most s l r a b h k)
 
 module _ (s : ℕ) (l r u : Tree) (mix : Adds s l r u) where
   pub both_most : (a b : ℕ) → IsMost s l a → IsMost s r b → IsMost s u (a + b)

@@ -1,54 +1,55 @@
 //! How often a symbol occurs, as far as it is known.
 
-ghost use Rattle.std.specs.Prelude.{◌≡◌, ℕ, ◌+◌, ◌*◌, ◌≤◌, min, max, Decides};
+ghost use Rattle.std.specs.Prelude.{◌≡◌, ℕ, ◌+◌, ◌*◌, ◌≤◌, Decides};
 ghost use Rattle.occurrences.specs.Figures.{figure};
 
 use parts::part::MOST_REPEATS;
 
 /// A number of occurrences, as far as it is known. No bound of a count is above
-/// 10,000, so numbers above it need not be told apart.
-#[derive(Clone, Copy)]
+/// 10,000, so numbers above it need not be told apart. No `Option`, since its
+/// `None` could be taken for no end.
+#[derive(Clone, Copy, PartialEq, Eq, PartialOrd, Ord)]
 pub enum Figure {
-    /// A number above 10,000.
-    Above,
     /// This number, which is at most 10,000.
     Exactly(u32),
+    /// A number above 10,000.
+    Above,
 }
 
-/// The most occurrences.
-#[derive(Clone, Copy)]
+/// The most occurrences. No `Option`, since its `None` could be taken for above
+/// 10,000.
+#[derive(Clone, Copy, PartialEq, Eq, PartialOrd, Ord)]
 pub enum Most {
+    Ends(Figure),
     /// There is always a message with more.
     NoEnd,
-    Ends(Figure),
 }
 
-impl Figure {
-    /// What is known of a number.
-    pub fn of(number: u32) -> Figure
-        ensures { result ≡ figure number }
-    {
+/// What is known of a number.
+impl From<u32> for Figure {
+    ghost from_gives = { λ number f. f ≡ figure number };
+
+    fn from(number: u32) -> Figure {
         if number <= MOST_REPEATS {
             Figure::Exactly(number)
         } else {
             Figure::Above
         }
     }
+}
 
+impl Figure {
     pub(crate) fn is_zero(self) -> bool
         ensures { (a : ℕ) → self ≡ figure a → Decides result (a ≡ 0) }
     {
-        match self {
-            Figure::Above => false,
-            Figure::Exactly(a) => a == 0,
-        }
+        self == Figure::Exactly(0)
     }
 
     pub(crate) fn plus(self, other: Figure) -> Figure
         ensures { (a b : ℕ) → self ≡ figure a → other ≡ figure b → result ≡ figure (a + b) }
     {
         match (self, other) {
-            (Figure::Exactly(a), Figure::Exactly(b)) => Figure::of(a.saturating_add(b)),
+            (Figure::Exactly(a), Figure::Exactly(b)) => Figure::from(a.saturating_add(b)),
             _ => Figure::Above,
         }
     }
@@ -58,26 +59,7 @@ impl Figure {
     {
         match self {
             Figure::Above => Figure::Above,
-            Figure::Exactly(a) => Figure::of(repeats.saturating_mul(a)),
-        }
-    }
-
-    pub(crate) fn smaller(self, other: Figure) -> Figure
-        ensures { (a b : ℕ) → self ≡ figure a → other ≡ figure b → result ≡ figure (min a b) }
-    {
-        match (self, other) {
-            (Figure::Exactly(a), Figure::Exactly(b)) => Figure::Exactly(a.min(b)),
-            (Figure::Above, _) => other,
-            _ => self,
-        }
-    }
-
-    pub(crate) fn larger(self, other: Figure) -> Figure
-        ensures { (a b : ℕ) → self ≡ figure a → other ≡ figure b → result ≡ figure (max a b) }
-    {
-        match (self, other) {
-            (Figure::Exactly(a), Figure::Exactly(b)) => Figure::Exactly(a.max(b)),
-            _ => Figure::Above,
+            Figure::Exactly(a) => Figure::from(repeats.saturating_mul(a)),
         }
     }
 }

@@ -50,7 +50,7 @@ impl Summary for Occurs {
     fn empty(&self) -> Occurring {
         Occurring {
             fewest: None,
-            most: Most::Ends(Figure::of(0)),
+            most: Most::Ends(Figure::from(0)),
             every: self.every().empty(),
         }
     }
@@ -59,14 +59,14 @@ impl Summary for Occurs {
         let every = self.every().symbol(symbol);
         if symbol == self.symbol {
             Occurring {
-                fewest: Some(Figure::of(1)),
-                most: Most::Ends(Figure::of(1)),
+                fewest: Some(Figure::from(1)),
+                most: Most::Ends(Figure::from(1)),
                 every,
             }
         } else {
             Occurring {
                 fewest: None,
-                most: Most::Ends(Figure::of(0)),
+                most: Most::Ends(Figure::from(0)),
                 every,
             }
         }
@@ -75,7 +75,7 @@ impl Summary for Occurs {
     fn choice(&self, left: Occurring, right: Occurring) -> Occurring {
         Occurring {
             fewest: fewest_of_either(left.fewest, right.fewest),
-            most: most_of_either(left.most, right.most),
+            most: left.most.max(right.most),
             every: self.every().choice(left.every, right.every),
         }
     }
@@ -118,19 +118,8 @@ fn fewest_of_either(left: Option<Figure>, right: Option<Figure>) -> Option<Figur
     ensures { (s : ℕ) (t u : Tree) → FewestIs s t left → FewestIs s u right → FewestIs s (choice_tree t u) result }
 {
     match (left, right) {
-        (None, found) => found,
-        (Some(a), None) => Some(a),
-        (Some(a), Some(b)) => Some(a.smaller(b)),
-    }
-}
-
-fn most_of_either(left: Most, right: Most) -> Most
-    ensures { (s : ℕ) (t u : Tree) → MostIs s t left → MostIs s u right → MostIs s (choice_tree t u) result }
-{
-    match (left, right) {
-        (Most::NoEnd, _) => Most::NoEnd,
-        (Most::Ends(_), Most::NoEnd) => Most::NoEnd,
-        (Most::Ends(a), Most::Ends(b)) => Most::Ends(a.larger(b)),
+        (Some(a), Some(b)) => Some(a.min(b)),
+        _ => left.or(right),
     }
 }
 
@@ -143,7 +132,7 @@ fn fewest_of_both(left: Figure, right: Figure, every_left: bool, every_right: bo
         (true, true) => left.plus(right),
         (true, false) => left,
         (false, true) => right,
-        (false, false) => left.smaller(right),
+        (false, false) => left.min(right),
     }
 }
 
@@ -151,9 +140,8 @@ fn fewest_side_by_side(left: Occurring, right: Occurring) -> Option<Figure>
     ensures { (s : ℕ) (t u : Tree) → Formed t → Formed u → OccurringIs s t left → OccurringIs s u right → FewestIs s (sequence_tree t u) result × FewestIs s (interleave_tree t u) result }
 {
     match (left.fewest, right.fewest) {
-        (None, found) => found,
-        (Some(a), None) => Some(a),
         (Some(a), Some(b)) => Some(fewest_of_both(a, b, left.every.0, right.every.0)),
+        _ => left.fewest.or(right.fewest),
     }
 }
 
@@ -161,8 +149,7 @@ fn most_side_by_side(left: Most, right: Most) -> Most
     ensures { (s : ℕ) (t u : Tree) → Formed t → Formed u → MostIs s t left → MostIs s u right → MostIs s (sequence_tree t u) result × MostIs s (interleave_tree t u) result }
 {
     match (left, right) {
-        (Most::NoEnd, _) => Most::NoEnd,
-        (Most::Ends(_), Most::NoEnd) => Most::NoEnd,
+        (Most::NoEnd, _) | (_, Most::NoEnd) => Most::NoEnd,
         (Most::Ends(a), Most::Ends(b)) => Most::Ends(a.plus(b)),
     }
 }
@@ -171,10 +158,11 @@ fn most_side_by_side(left: Most, right: Most) -> Most
 fn fewest_repeated(of: Occurring, low: u32) -> Option<Figure>
     ensures { (s high : ℕ) (t : Tree) → Formed (count_tree t low high) → OccurringIs s t of → FewestIs s (count_tree t low high) result }
 {
-    match of.fewest {
-        None => None,
-        Some(fewest) if of.every.0 => Some(fewest.times(low)),
-        Some(fewest) => Some(fewest),
+    let fewest = of.fewest?;
+    if of.every.0 {
+        Some(fewest.times(low))
+    } else {
+        Some(fewest)
     }
 }
 
@@ -184,15 +172,9 @@ fn most_repeated(of: Most, high: u32) -> Most
 {
     match of {
         Most::NoEnd => Most::NoEnd,
-        Most::Ends(most) => {
-            if high > 0 {
-                Most::Ends(most.times(high))
-            } else if most.is_zero() {
-                Most::Ends(most)
-            } else {
-                Most::NoEnd
-            }
-        }
+        Most::Ends(most) if high > 0 => Most::Ends(most.times(high)),
+        Most::Ends(most) if most.is_zero() => Most::Ends(most),
+        Most::Ends(_) => Most::NoEnd,
     }
 }
 

@@ -1,21 +1,21 @@
-use Rattle.std.proofs.Common.{Some, subst}
+use Rattle.std.proofs.Common.{◌≡◌, ◌⊎◌, Some, None, sym, subst, inl, inr}
+use Rattle.std.specs.Option.{option_or}
+use Rattle.models.specs.Trees.Tree.{sequence, interleave}
 use Rattle.occurrences.specs.Figures.{FewestIs}
-use Rattle.occurrences.proofs.Fewest.{side_fewest, both_fewest}
-use Rattle.occurrences.proofs.Added.{flipped, for_both}
+use Rattle.occurrences.proofs.Fewest.{lone_fewest, both_fewest}
+use Rattle.occurrences.proofs.Added.{for_both}
 use Rattle.occurrences.proofs.occurs.fewest_side_by_side.Goals as goal
+use Rattle.occurrences.proofs.occurs.fewest_side_by_side.Goals.{in_default-via-in-Some+in_default, in_default-via-in_default}
 
-pub returns-in-None-default : goal.returns-in-None-default
-returns-in-None-default c s l r formed_l formed_r f g =
-    let none = subst (FewestIs s l) c.in-None-default.is-0 f.0 in
-    for_both s l r (λ u. FewestIs s u c.args.right.fewest)
-    (λ u mix. side_fewest s r l u (flipped s l r u mix) c.args.right.fewest formed_l none g.0)
-
-pub returns-in-Some-None : goal.returns-in-Some-None
-returns-in-Some-None c s l r formed_l formed_r f g =
-    let found = subst (FewestIs s l) c.in-Some-None.is-0 f.0 in
-    let none = subst (FewestIs s r) c.in-Some-None.is-1 g.0 in
-    for_both s l r (λ u. FewestIs s u (Some c.in-Some-None.a))
-    (λ u mix. side_fewest s l r u mix (Some c.in-Some-None.a) formed_r none found)
+pub returns-in_default : goal.returns-in_default
+returns-in_default c s l r formed_l formed_r f g =
+    let lone = elim c.in_default.branch as (λ _. (c.args.left.fewest ≡ None) ⊎ (c.args.right.fewest ≡ None)) [
+      | in_default-via-in-Some+in_default w ↦ inr w.in_default.is-1
+      | in_default-via-in_default w ↦ inl w.in_default.is-0
+    ] in
+    subst (λ o. FewestIs s (sequence l r) o × FewestIs s (interleave l r) o) (sym c.or.ensures)
+    (for_both s l r (λ u. FewestIs s u (option_or c.args.left.fewest c.args.right.fewest))
+    (λ u mix. lone_fewest s l r u mix formed_l formed_r c.args.left.fewest c.args.right.fewest lone f.0 g.0))
 
 pub returns-in-Some-Some : goal.returns-in-Some-Some
 returns-in-Some-Some c s l r formed_l formed_r f g =

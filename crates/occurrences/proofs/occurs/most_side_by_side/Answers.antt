@@ -9,9 +9,9 @@ pub returns-in-NoEnd-default : goal.returns-in-NoEnd-default
 returns-in-NoEnd-default c s l r formed_l formed_r f g =
     for_both s l r (Endless s) (λ u mix. side_endless s l r u mix formed_r (subst (MostIs s l) c.in-NoEnd-default.is-0 f))
 
-pub returns-in-Ends-NoEnd : goal.returns-in-Ends-NoEnd
-returns-in-Ends-NoEnd c s l r formed_l formed_r f g =
-    for_both s l r (Endless s) (λ u mix. side_endless s r l u (flipped s l r u mix) formed_l (subst (MostIs s r) c.in-Ends-NoEnd.is-1 g))
+pub returns-in-NoEnd-default-2 : goal.returns-in-NoEnd-default-2
+returns-in-NoEnd-default-2 c s l r formed_l formed_r f g =
+    for_both s l r (Endless s) (λ u mix. side_endless s r l u (flipped s l r u mix) formed_l (subst (MostIs s r) c.in-NoEnd-default.is-1 g))
 
 pub returns-in-Ends-Ends : goal.returns-in-Ends-Ends
 returns-in-Ends-Ends c s l r formed_l formed_r f g =

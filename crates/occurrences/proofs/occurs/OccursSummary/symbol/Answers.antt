@@ -8,8 +8,8 @@ use Rattle.occurrences.proofs.occurs.OccursSummary.symbol.Goals as goal
 pub returns-then-symbol-self : goal.returns-then-symbol-self
 returns-then-symbol-self c low =
     let same = c.if-symbol-self.true in (
-      (1, c.of.ensures, symbol_fewest _ c.args.symbol same),
-      (1, c.of-then-symbol-self.ensures, symbol_most _ c.args.symbol 1 (counted_same _ c.args.symbol [] same)),
+      (1, c.from.ensures, symbol_fewest _ c.args.symbol same),
+      (1, c.from-then-symbol-self.ensures, symbol_most _ c.args.symbol 1 (counted_same _ c.args.symbol [] same)),
       (rw c.every.ensures at c.symbol-every.ensures) low,
     )
 
@@ -17,6 +17,6 @@ pub returns-else-symbol-self : goal.returns-else-symbol-self
 returns-else-symbol-self c low =
     let other = c.if-symbol-self.false in (
       (λ h. other (carries_symbol c.args.symbol _ h)),
-      (0, c.of-else-symbol-self.ensures, symbol_most _ c.args.symbol 0 (counted_other _ c.args.symbol [] other)),
+      (0, c.from-else-symbol-self.ensures, symbol_most _ c.args.symbol 0 (counted_other _ c.args.symbol [] other)),
       (rw c.every.ensures at c.symbol-every.ensures) low,
     )
