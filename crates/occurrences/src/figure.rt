@@ -1,9 +1,11 @@
-//! How often a symbol occurs, as far as it is known.
+//! How often a symbol occurs, as far as it is known, and how that is printed.
 
-ghost use Rattle.std.specs.Prelude.{◌≡◌, ℕ, ◌+◌, ◌*◌, ◌≤◌, Decides};
+ghost use Rattle.std.specs.Prelude.{◌≡◌, ℕ, ◌+◌, ◌*◌, ◌≤◌, Decides, Some};
 ghost use Rattle.occurrences.specs.Figures.{figure};
+ghost use Rattle.occurrences.specs.Texts.{figure_said, most_said};
 
 use parts::part::MOST_REPEATS;
+use std::fmt;
 
 /// A number of occurrences, as far as it is known. No bound of a count is above
 /// 10,000, so numbers above it need not be told apart. No `Option`, since its
@@ -60,6 +62,28 @@ impl Figure {
         match self {
             Figure::Above => Figure::Above,
             Figure::Exactly(a) => Figure::from(repeats.saturating_mul(a)),
+        }
+    }
+}
+
+impl fmt::Display for Figure {
+    ghost output = { λ f. Some (figure_said f) };
+
+    fn fmt<W: fmt::Write>(&self, f: &mut fmt::Formatter<W>) -> fmt::Result {
+        match self {
+            Figure::Exactly(number) => write!(f, "{number}"),
+            Figure::Above => f.write_str("above 10000"),
+        }
+    }
+}
+
+impl fmt::Display for Most {
+    ghost output = { λ m. Some (most_said m) };
+
+    fn fmt<W: fmt::Write>(&self, f: &mut fmt::Formatter<W>) -> fmt::Result {
+        match self {
+            Most::Ends(figure) => write!(f, "{figure}"),
+            Most::NoEnd => f.write_str("no end"),
         }
     }
 }

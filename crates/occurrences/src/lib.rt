@@ -1,5 +1,6 @@
 //! How often a symbol occurs in the messages of a model: what is known of a
-//! number (`figure`), and the summary of the fewest and the most (`occurs`).
+//! number, and its text (`figure`), and the summary of the fewest and the most
+//! (`occurs`).
 
 #![tactic(auto)]
 
