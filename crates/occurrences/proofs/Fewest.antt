@@ -99,7 +99,7 @@ both_least s l r u mix false false m n lacks_l lacks_r h k = record {
 }
 
 -- the other side never has it
-pub side_fewest : (s : ℕ) (l r u : Tree) → Adds s l r u → (o : Option Figure) → Formed r → (Carries r s → ⊥) → FewestIs s l o → FewestIs s u o
+side_fewest : (s : ℕ) (l r u : Tree) → Adds s l r u → (o : Option Figure) → Formed r → (Carries r s → ⊥) → FewestIs s l o → FewestIs s u o
 side_fewest s l r u mix None formed none h = λ (m, fit, o).
     let (a, b, f, g, e) = mix.parts m fit in
     let some = counted_some s m o in
@@ -117,7 +117,7 @@ pub lone_fewest : (s : ℕ) (l r u : Tree) → Adds s l r u → Formed l → For
     → FewestIs s l o → FewestIs s r p → FewestIs s u (option_or o p)
 lone_fewest s l r u mix formed_l formed_r None p lone f g = side_fewest s r l u (flipped s l r u mix) p formed_l f g
 lone_fewest s l r u mix formed_l formed_r (Some x) None lone f g = side_fewest s l r u mix (Some x) formed_r g f
-lone_fewest s l r u mix formed_l formed_r (Some x) (Some y) lone f g = ⊎_elim (λ e. cc) (λ e. cc) lone
+lone_fewest s l r u mix formed_l formed_r (Some x) (Some y) lone f g = grind arith
 
 -- both sides may have it
 pub both_fewest : (s : ℕ) (l r u : Tree) → Adds s l r u → Formed l → Formed r → (v w : Occurring) (f g h : Figure) → v.fewest ≡ Some f → w.fewest ≡ Some g

@@ -1,5 +1,5 @@
 -- The most occurrences of a symbol, kind by kind. Assumes nothing.
-use Rattle.std.proofs.Common.{◌≡◌, ℕ, ◌+◌, ◌*◌, ◌≤◌, max, [], ◌∷◌, sym, refl, ap, ◌∙◌, subst, inl, inr, ⊎_elim, mul-le-mul_right, mul_comm, mul-zero, le-mul_of_pos_right, arith}
+use Rattle.std.proofs.Common.{◌≡◌, ℕ, ◌+◌, ◌*◌, ◌≤◌, max, [], ◌∷◌, sym, refl, ap, ◌∙◌, subst, inl, inr, ⊎_elim, mul-le-mul_right, mul_comm, mul-zero, le-mul_of_pos_right, arith, rules}
 use Rattle.std.proofs.lemmas.Bool.{cases_eq, cases_lt}
 use Rattle.models.specs.Messages.{Message, occurrences}
 use Rattle.models.specs.Trees.{Tree, Fits, Bounds, Formed}
@@ -11,13 +11,12 @@ use Rattle.occurrences.specs.declared.figure.Most.{Most}
 use Rattle.occurrences.specs.declared.figure.Most.TheVariants.{Ends, NoEnd}
 use Rattle.occurrences.specs.contracts.figure.MostOrd.TheImpl as order
 use Rattle.std.specs.Ordering.{ord_max}
-use Rattle.std.proofs.lemmas.Grind.{common_steps}
 use Rattle.occurrences.proofs.Added.{Found, Adds, mixed, again}
 
 pub symbol_most : (s x n : ℕ) → occurrences s (x ∷ []) ≡ n → IsMost s (symbol x) n
-symbol_most s x n e = ((x ∷ [], refl, e), λ m f. let c : occurrences s m ≡ n = ap (occurrences s) f ∙ e in omega arith)
+symbol_most s x n e = ((x ∷ [], refl, e), λ m f. omega (arith, ap (occurrences s) f ∙ e))
 
-pub choice_most : (s : ℕ) (l r : Tree) (a b : ℕ) → IsMost s l a → IsMost s r b → IsMost s (choice l r) (max a b)
+choice_most : (s : ℕ) (l r : Tree) (a b : ℕ) → IsMost s l a → IsMost s r b → IsMost s (choice l r) (max a b)
 choice_most s l r a b ((m, f, d), h) ((n, g, e), k) = (
   elim (cases_lt a b) [ inl lt ↦ (n, inr g, omega arith) | inr ge ↦ (m, inl f, omega arith) ],
   λ x fit. ⊎_elim (λ p. let left = h x p in omega arith) (λ q. let right = k x q in omega arith) fit,
@@ -27,7 +26,7 @@ abbrev larger : Most → Most → Most
 larger = ord_max (order.ghosts).cmp
 
 larger_figure : (a b : ℕ) → larger (Ends (figure a)) (Ends (figure b)) ≡ Ends (figure (max a b))
-larger_figure a b = grind (arith, common_steps)
+larger_figure a b = search rules
 
 -- no end is above each figure
 pub choice_larger : (s : ℕ) (l r : Tree) (v w : Most) → MostIs s l v → MostIs s r w → MostIs s (choice l r) (larger v w)
@@ -35,8 +34,7 @@ choice_larger s l r NoEnd NoEnd f g = λ n. let (m, fit, more) = f n in (m, inl 
 choice_larger s l r NoEnd (Ends y) f g = λ n. let (m, fit, more) = f n in (m, inl fit, more)
 choice_larger s l r (Ends x) NoEnd f g = λ n. let (m, fit, more) = g n in (m, inr fit, more)
 choice_larger s l r (Ends x) (Ends y) (a, d, h) (b, e, k) =
-    let same : larger (Ends x) (Ends y) ≡ Ends (figure (max a b)) = rw (d, e) (larger_figure a b) in
-    subst (MostIs s (choice l r)) (sym same) (max a b, refl, choice_most s l r a b h k)
+    rw (d, e, larger_figure a b) (max a b, refl, choice_most s l r a b h k)
 
 module _ (s : ℕ) (l r u : Tree) (mix : Adds s l r u) where
   pub both_most : (a b : ℕ) → IsMost s l a → IsMost s r b → IsMost s u (a + b)
@@ -92,7 +90,7 @@ module _ (s : ℕ) (t : Tree) (low high : ℕ) where
 
 -- a message that has s is not empty
 filled : (s : ℕ) (m : Message) → 1 ≤ occurrences s m → m ≡ [] → ⊥
-filled s m some e = let none : occurrences s m ≡ 0 = ap (occurrences s) e in omega arith
+filled s m some e = omega (arith, ap (occurrences s) e)
 
 pub nonempty_most : (s : ℕ) (t : Tree) (v : Most) → Formed (nonempty t) → MostIs s t v → MostIs s (nonempty t) v
 nonempty_most s t NoEnd formed h = λ n. let (m, f, more) = h (max 1 n) in (m, (f, filled s m (omega arith)), omega arith)

@@ -8,8 +8,9 @@ use parts::part::MOST_REPEATS;
 use std::fmt;
 
 /// A number of occurrences, as far as it is known. No bound of a count is above
-/// 10,000, so numbers above it need not be told apart. No `Option`, since its
-/// `None` could be taken for no end.
+/// 10,000, so numbers above it need not be told apart. The cases ascend, for the
+/// derived order. No `Option`: its `None` would be above 10,000, that of `Most`
+/// no end, and the two could be mixed.
 #[derive(Clone, Copy, PartialEq, Eq, PartialOrd, Ord)]
 pub enum Figure {
     /// This number, which is at most 10,000.
@@ -18,8 +19,8 @@ pub enum Figure {
     Above,
 }
 
-/// The most occurrences. No `Option`, since its `None` could be taken for above
-/// 10,000.
+/// The most occurrences. The cases ascend here too. No `Option`: its `None` could
+/// be mixed with that of a `Figure`.
 #[derive(Clone, Copy, PartialEq, Eq, PartialOrd, Ord)]
 pub enum Most {
     Ends(Figure),

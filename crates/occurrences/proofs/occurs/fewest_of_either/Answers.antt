@@ -1,5 +1,5 @@
-use Rattle.std.proofs.Common.{◌≡◌, min, subst, rules}
-use Rattle.occurrences.specs.Figures.{figure, FewestIs}
+use Rattle.std.proofs.Common.{min, subst, rules}
+use Rattle.occurrences.specs.Figures.{FewestIs}
 use Rattle.occurrences.proofs.Fewest.{choice_fewest}
 use Rattle.occurrences.proofs.occurs.fewest_of_either.Goals as goal
 
@@ -7,5 +7,4 @@ pub returns-in-Some-Some : goal.returns-in-Some-Some
 returns-in-Some-Some c s t u f g =
     let (a, d, h) = subst (FewestIs s t) c.in-Some-Some.is-0 f in
     let (b, e, k) = subst (FewestIs s u) c.in-Some-Some.is-1 g in
-    let smaller : c.min.result ≡ figure (min a b) = search rules in
-    (min a b, smaller, choice_fewest s t u a b h k)
+    (min a b, search rules, choice_fewest s t u a b h k)

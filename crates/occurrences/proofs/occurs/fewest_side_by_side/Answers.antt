@@ -1,19 +1,14 @@
-use Rattle.std.proofs.Common.{◌≡◌, ◌⊎◌, Some, None, sym, subst, inl, inr}
+use Rattle.std.proofs.Common.{◌≡◌, ◌⊎◌, Some, None, rules}
 use Rattle.std.specs.Option.{option_or}
-use Rattle.models.specs.Trees.Tree.{sequence, interleave}
 use Rattle.occurrences.specs.Figures.{FewestIs}
 use Rattle.occurrences.proofs.Fewest.{lone_fewest, both_fewest}
 use Rattle.occurrences.proofs.Added.{for_both}
 use Rattle.occurrences.proofs.occurs.fewest_side_by_side.Goals as goal
-use Rattle.occurrences.proofs.occurs.fewest_side_by_side.Goals.{in_default-via-in-Some+in_default, in_default-via-in_default}
 
 pub returns-in_default : goal.returns-in_default
 returns-in_default c s l r formed_l formed_r f g =
-    let lone = elim c.in_default.branch as (λ _. (c.args.left.fewest ≡ None) ⊎ (c.args.right.fewest ≡ None)) [
-      | in_default-via-in-Some+in_default w ↦ inr w.in_default.is-1
-      | in_default-via-in_default w ↦ inl w.in_default.is-0
-    ] in
-    subst (λ o. FewestIs s (sequence l r) o × FewestIs s (interleave l r) o) (sym c.or.ensures)
+    let lone : (c.args.left.fewest ≡ None) ⊎ (c.args.right.fewest ≡ None) = search rules in
+    rw c.or.ensures
     (for_both s l r (λ u. FewestIs s u (option_or c.args.left.fewest c.args.right.fewest))
     (λ u mix. lone_fewest s l r u mix formed_l formed_r c.args.left.fewest c.args.right.fewest lone f.0 g.0))
 

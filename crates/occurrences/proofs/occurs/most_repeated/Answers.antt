@@ -15,8 +15,7 @@ returns-in-Ends c s low t formed h =
 pub returns-in-Ends-2 : goal.returns-in-Ends-2
 returns-in-Ends-2 c s low t formed h =
     let (n, e, most) = subst (MostIs s t) c.in-Ends-2.is h in
-    let none : n ≡ 0 = (c.is_zero.ensures n e).0 c.if-is_zero.true in
-    (n, e, none_repeated s t low c.args.high n none formed.1 most)
+    (n, e, none_repeated s t low c.args.high n ((c.is_zero.ensures n e).0 c.if-is_zero.true) formed.1 most)
 
 pub returns-in-Ends-3 : goal.returns-in-Ends-3
 returns-in-Ends-3 c s low t formed h =

@@ -1,6 +1,5 @@
 use Rattle.std.proofs.Common.{[]}
-use Rattle.summaries.proofs.Carried.{carries_symbol}
-use Rattle.models.proofs.Counted.{counted_same, counted_other}
+use Rattle.models.proofs.Counted.{counted_same}
 use Rattle.occurrences.proofs.Fewest.{symbol_fewest}
 use Rattle.occurrences.proofs.Mosts.{symbol_most}
 use Rattle.occurrences.proofs.occurs.OccursSummary.symbol.Goals as goal
@@ -10,13 +9,5 @@ returns-then-symbol-self c low =
     let same = c.if-symbol-self.true in (
       (1, c.from.ensures, symbol_fewest _ c.args.symbol same),
       (1, c.from-then-symbol-self.ensures, symbol_most _ c.args.symbol 1 (counted_same _ c.args.symbol [] same)),
-      (rw c.every.ensures at c.symbol-every.ensures) low,
-    )
-
-pub returns-else-symbol-self : goal.returns-else-symbol-self
-returns-else-symbol-self c low =
-    let other = c.if-symbol-self.false in (
-      (λ h. other (carries_symbol c.args.symbol _ h)),
-      (0, c.from-else-symbol-self.ensures, symbol_most _ c.args.symbol 0 (counted_other _ c.args.symbol [] other)),
       (rw c.every.ensures at c.symbol-every.ensures) low,
     )
