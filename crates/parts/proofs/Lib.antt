@@ -1,4 +1,3 @@
-pub mod Fronts
 pub mod Joining
 pub mod Listing
 pub mod SymbolSets

@@ -1,6 +1,9 @@
 //! A stack over a lent slice, for values of any type.
 
 ghost use Rattle.std.specs.Prelude.{◌≤◌, length};
+ghost use Rattle.parts.specs.Stacks.{Kept, front};
+
+use std::marker::Model;
 
 pub mod calls;
 
@@ -9,5 +12,13 @@ pub mod calls;
 pub struct Stack<'a, E> {
     items: &'a mut [E],
     len: usize,
-    ghost within: { len ≤ length items.now },
+}
+
+// Clauses see what waits and all that the slice holds.
+impl<'a, E> Model for Stack<'a, E> {
+    ghost Value = { Kept E };
+
+    ghost view = { λ s. record { waiting = front s.items.now s.len; lent = s.items.now } };
+
+    ghost invariant = { λ s. s.len ≤ length s.items.now };
 }

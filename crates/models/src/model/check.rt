@@ -8,7 +8,7 @@ ghost use Rattle.models.specs.Sheets.{reading, table_answer, tree, step};
 ghost use Rattle.models.specs.Told.{Told, AllFormed};
 ghost use Rattle.models.specs.Trees.{Tree, Inhabited};
 ghost use Rattle.models.specs.Written.{TakenExactly};
-ghost use Rattle.parts.specs.Stacks.{waiting as held, depth, room};
+ghost use Rattle.parts.specs.Stacks.{depth, room};
 
 use crate::model::Model;
 use crate::model::has_symbol::HasSymbol;
@@ -32,7 +32,7 @@ fn check_part(place: usize, part: Part, waiting: &mut Stack<'_, bool>) -> Result
     requires { depth waiting.old < room waiting.old }
     ensures grows { depth waiting.new ≤ depth waiting.old + 1 }
     ensures kept { room waiting.new ≡ room waiting.old }
-    ensures admitted { (ts : List Tree) → Told flags ts (held waiting.old) → AllFormed ts → Admitted place (step part ts) result (held waiting.new) }
+    ensures admitted { (ts : List Tree) → Told flags ts waiting.old.waiting → AllFormed ts → Admitted place (step part ts) result waiting.new.waiting }
 {
     let Some(form) = part.form() else {
         return Err(PartFault::UnknownKind { place });

@@ -5,7 +5,7 @@ ghost use Rattle.models.specs.Checked.{tree_of};
 ghost use Rattle.models.specs.Sheets.{shape, join};
 ghost use Rattle.models.specs.Told.{Told, AllFormed};
 ghost use Rattle.models.specs.Trees.{Tree};
-ghost use Rattle.parts.specs.Stacks.{waiting, depth, room};
+ghost use Rattle.parts.specs.Stacks.{depth, room};
 
 use crate::model::Model;
 use crate::summary::Summary;
@@ -18,7 +18,7 @@ pub(crate) fn apply<S: Summary>(summary: &S, form: Form, stack: &mut Stack<'_, S
     requires { depth stack.old < room stack.old }
     ensures grows { depth stack.new ≤ depth stack.old + 1 }
     ensures kept { room stack.new ≡ room stack.old }
-    ensures told { (ts us : List Tree) → Told (S.means summary.now) ts (waiting stack.old) → join (shape form) ts ≡ Some us → AllFormed us → Told (S.means summary.now) us (waiting stack.new) }
+    ensures told { (ts us : List Tree) → Told (S.means summary.now) ts stack.old.waiting → join (shape form) ts ≡ Some us → AllFormed us → Told (S.means summary.now) us stack.new.waiting }
 {
     let made = match form {
         Form::Empty => Some(summary.empty()),

@@ -1,38 +1,35 @@
 //! What a stack does.
 
-ghost use Rattle.std.specs.Prelude.{◌≡◌, [], length, take};
-ghost use Rattle.parts.specs.Stacks.{waiting, depth, lent, first_of, Pushed, Popped, PoppedTwo};
+ghost use Rattle.std.specs.Prelude.{◌≡◌, [], reverse};
+ghost use Rattle.parts.specs.Stacks.{depth, first_of, Pushed, Popped, PoppedTwo};
 
 use super::Stack;
 
 impl<'a, E: Copy> Stack<'a, E> {
     /// An empty stack that can hold as many values as the slice.
     pub fn new(items: &'a mut [E]) -> Stack<'a, E>
-        ensures empty { waiting result ≡ [] }
-        ensures depth { depth result ≡ 0 }
-        ensures room { lent result ≡ items.old }
+        ensures { result ≡ record { waiting = []; lent = items.old } }
     {
         Stack { items, len: 0 }
     }
 
     // What waits, the first pushed first.
     fn held(&self) -> &[E]
-        ensures { result.now ≡ take self.now.len self.now.items.now }
+        ensures { reverse result.now ≡ self.now.waiting }
     {
         &self.items[0..self.len]
     }
 
     /// How many values wait.
     pub fn len(&self) -> usize
-        ensures waiting { result ≡ length (waiting self.now) }
-        ensures depth { result ≡ depth self.now }
+        ensures { result ≡ depth self.now }
     {
         self.held().len()
     }
 
     /// The value pushed last, if any waits.
     pub fn last(&self) -> Option<E>
-        ensures { result ≡ first_of (waiting self.now) }
+        ensures { result ≡ first_of self.now.waiting }
     {
         match self.held() {
             [.., top] => Some(*top),

@@ -4,7 +4,7 @@ use Rattle.models.proofs.Admits.{model_reads}
 use Rattle.models.proofs.summary.work.work_up.Goals as goal
 
 pub loop-part-init : goal.loop-part-init
-loop-part-init g c = (search rules, search rules, rw c.new-stack.ensures.empty (along_none _ _))
+loop-part-init g c = (search rules, search rules, rw c.new-stack.ensures (along_none _ _))
 
 pub unreachable-requires : goal.unreachable-requires
 unreachable-requires g c = checked_form _ _ c.parts-part-items.ensures.checked _ _ c.loop-part.invariant.2 _ c.loop-part-test.true c.in_default.ensures

@@ -37,13 +37,3 @@ loop-symbol-preserved g c =
           let one = c.write.ensures.writes before.plain (ap is_ok c.in_ok-write.was) in
           has_written_of_eq took _ _ _ _ text (has_written_append took _ _ _ _ _ before one),
     )
-
-pub returns-clause-writes : goal.returns-clause-writes
-returns-clause-writes g c plain ok =
-    let took = g.W.Write.write_str_gives in
-    let bits = c.args.self.now.bits in
-    let all : c.loop-symbol.symbol-counter ≡ 64 = omega arith in
-    let opened = c.write_str.ensures.writes plain (ap is_ok c.in_ok-write_str.was) in
-    let middle = has_written_of_eq took _ _ _ _ (ap (λ n. row (symbols_below n bits)) all) (c.loop-symbol.invariant.2 opened.plain) in
-    let closed = c.write_str-2.ensures.writes middle.plain ok in
-    has_written_append took _ _ _ _ _ opened (has_written_append took _ _ _ _ _ middle closed)
