@@ -1,16 +1,12 @@
 -- One word more of a question. Assumes nothing.
-use Rattle.std.proofs.Common.{◌≡◌, ℕ, ◌<◌, List, [], ◌∷◌, length, Err, refl, subst, inl, inr, arith}
+use Rattle.std.proofs.Common.{◌≡◌, ℕ, List, [], ◌∷◌, Err, refl, subst, inl, inr}
 use Rattle.script.specs.Questions.{WantsSet, WantsSymbol, NoQuestion, SetNext, SymbolNext}
-use Rattle.script.specs.Words.{First, Begins, Next}
+use Rattle.script.specs.Words.{First, Begins}
 use Rattle.script.specs.declared.error.LineError.{LineError}
 
 -- the name of a question is its first word
-pub named : (bs w name mid : List ℕ) → Next bs w mid → w ≡ name → 0 < length name → Begins bs (name ∷ []) mid
-named bs w name mid (inl first) is some = (mid, subst (λ v. First bs v mid) is first, refl)
-named bs w name mid (inr (blank, none, same)) is some = absurd (short name (subst (λ v. v ≡ []) is none) some)
-  where
-    short : (v : List ℕ) → v ≡ [] → 0 < length v → ⊥
-    short v e h = let none : 0 < length {A = ℕ} [] = subst (λ u. 0 < length u) e h in omega arith
+pub named : (bs w name mid : List ℕ) → First bs w mid → w ≡ name → Begins bs (name ∷ []) mid
+named bs w name mid first is = (mid, subst (λ v. First bs v mid) is first, refl)
 
 module _ (bs mid rest : List ℕ) (ws : List (List ℕ)) (e : LineError) (begins : Begins bs ws mid) where
   pub set_wrong : WantsSet ws → SetNext mid (Err e) rest → NoQuestion bs e

@@ -1,9 +1,9 @@
 -- What the words of a question say. Assumes nothing.
-use Rattle.std.specs.Prelude.{◌≡◌, ℕ, ◌⊎◌, List, [], ◌∷◌, Some, None, Ok, Err, codes, Option, Result, ◌≢◌}
+use Rattle.std.specs.Prelude.{◌≡◌, ℕ, ◌⊎◌, List, [], ◌∷◌, Some, None, Ok, Err, IfSome, codes, Option, Result, ◌≢◌}
 use Rattle.std.specs.Borrow.{Bor}
 use Rattle.parts.specs.declared.symbols.SymbolSet.{SymbolSet}
 use Rattle.script.specs.Reads.{number_read, set_read}
-use Rattle.script.specs.Words.{First, Begins, Next, Comes}
+use Rattle.script.specs.Words.{Begins, Comes, ReadNext}
 use Rattle.script.specs.declared.error.LineError.{LineError}
 use Rattle.script.specs.declared.error.LineError.TheVariants.{NoSuchQuestion, NotSet, NotSymbol, NotColon}
 use Rattle.script.specs.declared.question.Question.{Question}
@@ -42,24 +42,19 @@ WantsSymbol ws =
 -- e tells what is wrong with bs as a question: the name, or what comes in the place of a set or a symbol
 abbrev pub NoQuestion : List ℕ → LineError → Type 0
 NoQuestion bs e =
-    ((w : Bor (List ℕ)) × (e ≡ NoSuchQuestion w) × Comes bs [] w.now × Unnamed w.now) ⊎
-    (((w : Bor (List ℕ)) × (ws : List (List ℕ)) × (e ≡ NotSet w) × WantsSet ws × Comes bs ws w.now × (set_read w.now ≡ None)) ⊎
-    ((w : Bor (List ℕ)) × (ws : List (List ℕ)) × (e ≡ NotSymbol w) × WantsSymbol ws × Comes bs ws w.now × (number_read w.now ≡ None)))
+    ((w : Option (Bor (List ℕ))) × (e ≡ NoSuchQuestion w) × Comes bs [] w × IfSome w (λ v. Unnamed v.now)) ⊎
+    (((w : Option (Bor (List ℕ))) × (ws : List (List ℕ)) × (e ≡ NotSet w) × WantsSet ws × Comes bs ws w × IfSome w (λ v. set_read v.now ≡ None)) ⊎
+    ((w : Option (Bor (List ℕ))) × (ws : List (List ℕ)) × (e ≡ NotSymbol w) × WantsSymbol ws × Comes bs ws w × IfSome w (λ v. number_read v.now ≡ None)))
 
 -- e tells what comes in the place of the colon
 abbrev pub NoColon : List ℕ → LineError → Type 0
-NoColon bs e = (w : Bor (List ℕ)) × (e ≡ NotColon w) × Comes bs [] w.now × (w.now ≢ codes ":")
-
--- the first word of bs is read as x, and rest follows it; or e tells what comes in its place
-abbrev pub ReadNext : {X : Type 0} → (List ℕ → Option X) → (Bor (List ℕ) → LineError) → List ℕ → Result X LineError → List ℕ → Type 0
-ReadNext read wrong bs (Ok x) rest = (w : List ℕ) × First bs w rest × (read w ≡ Some x)
-ReadNext read wrong bs (Err e) rest = (w : Bor (List ℕ)) × (e ≡ wrong w) × Next bs w.now rest × (read w.now ≡ None)
+NoColon bs e = (w : Option (Bor (List ℕ))) × (e ≡ NotColon w) × Comes bs [] w × IfSome w (λ v. v.now ≢ codes ":")
 
 abbrev pub SetNext : List ℕ → Result SymbolSet LineError → List ℕ → Type 0
-SetNext = ReadNext set_read NotSet
+SetNext = ReadNext (λ w o. set_read w.now ≡ o) (λ w e. e ≡ NotSet w)
 
 abbrev pub SymbolNext : List ℕ → Result ℕ LineError → List ℕ → Type 0
-SymbolNext = ReadNext number_read NotSymbol
+SymbolNext = ReadNext (λ w o. number_read w.now ≡ o) (λ w e. e ≡ NotSymbol w)
 
 abbrev pub QuestionNext : List ℕ → Result Question LineError → List ℕ → Type 0
 QuestionNext bs (Ok q) rest = Asked bs q rest

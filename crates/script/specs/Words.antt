@@ -1,7 +1,15 @@
 -- The words of a text, one after another. Assumes nothing.
-use Rattle.std.specs.Prelude.{◌≡◌, ℕ, ◌<◌, ◌⊎◌, List, [], ◌∷◌, ◌++◌, length}
+use Rattle.std.specs.Prelude.{◌≡◌, ℕ, ◌<◌, List, [], ◌∷◌, ◌++◌, length, Some, None, Ok, Err, IfSome, Option, Result}
+use Rattle.std.specs.Borrow.{Bor}
 use Rattle.std.specs.Char.{is_whitespace, is_not_whitespace}
 use Rattle.std.specs.Str.{NoCharPasses, EmptyOrStartsWithPassing}
+use Rattle.std.specs.Str.Iter.{split_whitespace_rest}
+use Rattle.script.specs.declared.error.LineError.{LineError}
+use Rattle.script.specs.declared.reader.Reader.{Reader}
+
+-- what a reader has still to read
+abbrev pub left : Reader → List ℕ
+left reader = split_whitespace_rest reader.words
 
 -- bs is white space, the word w, and rest, which is empty or begins with white space
 pub record First (bs w rest : List ℕ) : Type 0 where
@@ -17,10 +25,16 @@ abbrev pub Begins : List ℕ → List (List ℕ) → List ℕ → Type 0
 Begins bs [] rest = bs ≡ rest
 Begins bs (w ∷ ws) rest = (mid : List ℕ) × First bs w mid × Begins mid ws rest
 
--- w is the first word of bs, and rest follows it; or bs has no word, and w is empty
-abbrev pub Next : List ℕ → List ℕ → List ℕ → Type 0
-Next bs w rest = First bs w rest ⊎ (NoCharPasses is_not_whitespace bs × (w ≡ []) × (rest ≡ bs))
+-- w is the first word of bs, and rest follows it; or bs has no word
+abbrev pub Next : List ℕ → Option (Bor (List ℕ)) → List ℕ → Type 0
+Next bs (Some w) rest = First bs w.now rest
+Next bs None rest = NoCharPasses is_not_whitespace bs × (rest ≡ bs)
 
 -- the first words of bs are ws, and w is next
-abbrev pub Comes : List ℕ → List (List ℕ) → List ℕ → Type 0
+abbrev pub Comes : List ℕ → List (List ℕ) → Option (Bor (List ℕ)) → Type 0
 Comes bs ws w = (mid : List ℕ) × (rest : List ℕ) × Begins bs ws mid × Next mid w rest
+
+-- the first word of bs gives x, and rest follows it; or it gives nothing, or bs has no word, and e tells of what comes in its place
+abbrev pub ReadNext : {X : Type 0} → (Bor (List ℕ) → Option X → Type 0) → (Option (Bor (List ℕ)) → LineError → Type 0) → List ℕ → Result X LineError → List ℕ → Type 0
+ReadNext Gives Tells bs (Ok x) rest = (w : Bor (List ℕ)) × First bs w.now rest × Gives w (Some x)
+ReadNext Gives Tells bs (Err e) rest = (w : Option (Bor (List ℕ))) × Tells w e × Next bs w rest × IfSome w (λ v. Gives v None)

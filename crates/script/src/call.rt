@@ -1,15 +1,14 @@
 //! From a line of a script to the call that it makes, or to what is wrong with it.
 ghost use Rattle.std.specs.Prelude.{MatchResult};
-ghost use Rattle.std.specs.Str.Iter.{split_whitespace_rest};
-ghost use Rattle.script.specs.Lines.{AllParts, NotParts, AllAsk, NotAsk, CallRead, LineRead};
+ghost use Rattle.script.specs.Lines.{AllAsk, NotAsk, CallRead, LineRead};
+ghost use Rattle.script.specs.Words.{left};
 
 use crate::calls::Calls;
 use crate::error::LineError;
-use crate::question::{Question, next_colon, next_question};
-use crate::read;
+use crate::question::Question;
+use crate::reader::Reader;
 use parts::part::Part;
 use std::alloc::Global;
-use std::str::SplitWhitespace;
 
 /// A call of a script. A call more is a variant here, an arm in `named` with the function that reads
 /// its words, and an arm in the program with the function that answers it.
@@ -38,29 +37,24 @@ impl Call {
         if line.starts_with('#') {
             return Ok(None);
         }
-        let mut words = line.split_whitespace();
-        let Some(name) = words.next() else {
+        let mut reader = Reader::new(heap, line);
+        let Some(name) = reader.next_word() else {
             return Ok(None);
         };
-        Ok(Some(Call::named(heap, calls, name, words)?))
+        Ok(Some(Call::named(calls, name, reader)?))
     }
 
     /// The call of a name and the words after it.
-    fn named<'a>(
-        heap: Global,
-        calls: Calls,
-        name: &'a str,
-        words: SplitWhitespace<'a>,
-    ) -> Result<Call, LineError<'a>>
-        ensures { CallRead calls name.now (split_whitespace_rest words.entry) result }
+    fn named<'a>(calls: Calls, name: &'a str, reader: Reader<'a>) -> Result<Call, LineError<'a>>
+        ensures { CallRead calls name.now (left reader.entry) result }
     {
         match name {
             "check" => {
-                let parts = all_parts(heap, words)?;
+                let parts = reader.parts()?;
                 Ok(Call::Check { parts })
             }
             "ask" if calls.has_ask() => {
-                let (question, parts) = ask(heap, words)?;
+                let (question, parts) = question_and_parts(reader)?;
                 Ok(Call::Ask { question, parts })
             }
             _ => Err(LineError::NoSuchCall { name, calls }),
@@ -69,31 +63,11 @@ impl Call {
 }
 
 /// The words after `ask` are a question, a colon and the parts.
-fn ask<'a>(
-    heap: Global,
-    mut words: SplitWhitespace<'a>,
-) -> Result<(Question, Vec<Part>), LineError<'a>>
-    ensures { MatchResult result (λ r. AllAsk (split_whitespace_rest words.entry) r.0 r.1.items) (NotAsk (split_whitespace_rest words.entry)) }
+fn question_and_parts(mut reader: Reader) -> Result<(Question, Vec<Part>), LineError>
+    ensures { MatchResult result (λ r. AllAsk (left reader.entry) r.0 r.1.items) (NotAsk (left reader.entry)) }
 {
-    let question = next_question(&mut words)?;
-    next_colon(&mut words)?;
-    let parts = all_parts(heap, words)?;
+    let question = reader.next_question()?;
+    reader.next_colon()?;
+    let parts = reader.parts()?;
     Ok((question, parts))
-}
-
-/// The parts that all the words write.
-fn all_parts<'a>(heap: Global, words: SplitWhitespace<'a>) -> Result<Vec<Part>, LineError<'a>>
-    ensures { MatchResult result (λ parts. AllParts (split_whitespace_rest words.entry) parts.items) (NotParts (split_whitespace_rest words.entry)) }
-{
-    let mut parts = Vec::new(heap);
-    for word in words {
-        let Some(part) = read::part(word) else {
-            return Err(LineError::NotPart {
-                count: parts.len() + 1,
-                word,
-            });
-        };
-        parts.push(part)?;
-    }
-    Ok(parts)
 }

@@ -7,19 +7,19 @@ use crate::calls::Calls;
 use std::alloc::AllocFailed;
 use std::fmt;
 
-/// Why a line is no call. A word is empty where the line ends before it.
+/// Why a line is no call. A word is `None` where the line ends before it.
 #[derive(Drop)]
 pub enum LineError<'a> {
     /// No call that the program takes has this name.
     NoSuchCall { name: &'a str, calls: Calls },
     /// No question has this name.
-    NoSuchQuestion { name: &'a str },
+    NoSuchQuestion { name: Option<&'a str> },
     /// A word is not written as a set.
-    NotSet { word: &'a str },
+    NotSet { word: Option<&'a str> },
     /// A word is not written as a symbol.
-    NotSymbol { word: &'a str },
+    NotSymbol { word: Option<&'a str> },
     /// A word stands where the colon before the parts should.
-    NotColon { word: &'a str },
+    NotColon { word: Option<&'a str> },
     /// A word is not written as a part; `count` numbers the parts of the line from 1.
     NotPart { count: usize, word: &'a str },
     /// Memory ran out while the line was read.
@@ -43,22 +43,22 @@ impl fmt::Display for LineError<'_> {
                 write!(f, "no such call: {name} (calls: {calls})")
             }
             LineError::NoSuchQuestion { name } => {
-                let name = or_end(name);
+                let name = or_end(*name);
                 write!(
                     f,
                     "expected a question (every, occurs, brings, after), and not: {name}"
                 )
             }
             LineError::NotSet { word } => {
-                let word = or_end(word);
+                let word = or_end(*word);
                 write!(f, "expected a set of symbols, as 0,1 or -, and not: {word}")
             }
             LineError::NotSymbol { word } => {
-                let word = or_end(word);
+                let word = or_end(*word);
                 write!(f, "expected a symbol, and not: {word}")
             }
             LineError::NotColon { word } => {
-                let word = or_end(word);
+                let word = or_end(*word);
                 write!(f, "expected : before the parts, and not: {word}")
             }
             LineError::NotPart { count, word } => {
@@ -70,12 +70,8 @@ impl fmt::Display for LineError<'_> {
 }
 
 /// A word, or what stands in its place where the line ends before it.
-fn or_end(word: &str) -> &str
-    ensures { result.now ≡ word_or_end word.now }
+fn or_end(word: Option<&str>) -> &str
+    ensures { result.now ≡ word_or_end word.entry }
 {
-    if word.is_empty() {
-        "the end of the line"
-    } else {
-        word
-    }
+    word.unwrap_or("the end of the line")
 }

@@ -1,6 +1,7 @@
 //! The calls of a script: which of them a program takes (`calls`), what a word
-//! writes (`read`), the question that words ask (`question`), which call a line
-//! makes (`call`), or what is wrong with it (`error`).
+//! writes (`read`), the words of a line in turn (`reader`), the question that
+//! they ask (`question`), which call a line makes (`call`), or what is wrong
+//! with it (`error`).
 
 #![tactic(auto)]
 
@@ -9,3 +10,4 @@ pub mod calls;
 pub mod error;
 pub mod question;
 pub mod read;
+mod reader;

@@ -1,29 +1,25 @@
 use Rattle.std.proofs.Common.{◌≡◌, get_or, subst, arith}
-use Rattle.script.specs.Words.{First}
-use Rattle.script.proofs.Words.{first_of}
+use Rattle.script.specs.Words.{left, First}
 use Rattle.std.proofs.lemmas.Str.Pattern.{starts_char}
 use Rattle.std.proofs.lemmas.Result.{err_from_is_err_and}
 use Rattle.std.proofs.lemmas.Bool.Decides.{not_from_Decides}
-use Rattle.std.specs.Str.Iter.{split_whitespace_rest}
 use Rattle.script.proofs.call.Call.read.Goals as goal
 
 pub returns-in_err-named : goal.returns-in_err-named
 returns-in_err-named c =
     let line = c.args.line.now in
     let name = c.in-Some.name.now in
-    let rest = split_whitespace_rest c.next.new.self in
+    let rest = left c.next_word.new.self in
     let marked = starts_char _ line _ c.starts_with.ensures.cases (omega arith) (omega arith) in
     let call : get_or line 0 0 ≡ 35 → ⊥ = λ e. not_from_Decides _ marked c.if-starts_with.false (omega (arith, e)) in
-    let first = first_of _ name rest c.in-Some.ensures.steps in
     let p = err_from_is_err_and c.from_residual.result c.from_residual.ensures.1 in
-    rw (p.1, p.2) (call, (name, rest, subst (λ bs. First bs name rest) c.split_whitespace-words.ensures.rest first, c.in_err-named.ensures))
+    rw (p.1, p.2) (call, (name, rest, subst (λ bs. First bs name rest) c.new-reader.ensures c.in-Some.ensures, c.in_err-named.ensures))
 
 pub returns : goal.returns
 returns c =
     let line = c.args.line.now in
     let name = c.in-Some.name.now in
-    let rest = split_whitespace_rest c.next.new.self in
+    let rest = left c.next_word.new.self in
     let marked = starts_char _ line _ c.starts_with.ensures.cases (omega arith) (omega arith) in
     let call : get_or line 0 0 ≡ 35 → ⊥ = λ e. not_from_Decides _ marked c.if-starts_with.false (omega (arith, e)) in
-    let first = first_of _ name rest c.in-Some.ensures.steps in
-    (call, (name, rest, subst (λ bs. First bs name rest) c.split_whitespace-words.ensures.rest first, c.in_ok-named.ensures))
+    (call, (name, rest, subst (λ bs. First bs name rest) c.new-reader.ensures c.in-Some.ensures, c.in_ok-named.ensures))

@@ -3,7 +3,7 @@ use Rattle.script.proofs.Words.{Sofar, first_of, begins_more, counted, one_more}
 use Rattle.script.specs.declared.error.LineError.TheVariants.{NotPart}
 use Rattle.std.proofs.ResultArms.{chosen}
 use Rattle.std.proofs.lemmas.Result.{err_from_is_err_and}
-use Rattle.script.proofs.call.all_parts.Goals as goal
+use Rattle.script.proofs.reader.Reader.parts.Goals as goal
 
 pub returns-in_default : goal.returns-in_default
 returns-in_default c =

@@ -1,0 +1,62 @@
+//! Reads a line from its front to its end, word by word.
+ghost use Rattle.std.specs.Prelude.{◌≡◌, MatchResult};
+ghost use Rattle.script.specs.Lines.{AllParts, NotParts};
+ghost use Rattle.script.specs.Words.{left, Next, ReadNext};
+
+use crate::error::LineError;
+use crate::read;
+use parts::part::Part;
+use std::alloc::Global;
+use std::str::SplitWhitespace;
+
+/// The words of a line that are still to be read, and the memory for what they write.
+#[derive(Drop)]
+pub(crate) struct Reader<'a> {
+    heap: Global,
+    words: SplitWhitespace<'a>,
+}
+
+impl<'a> Reader<'a> {
+    pub(crate) fn new(heap: Global, line: &'a str) -> Reader<'a>
+        ensures { left result ≡ line.now }
+    {
+        let words = line.split_whitespace();
+        Reader { heap, words }
+    }
+
+    pub(crate) fn next_word(&mut self) -> Option<&'a str>
+        ensures { Next (left self.old) result (left self.new) }
+    {
+        self.words.next()
+    }
+
+    /// The next word as `read` takes it, or what is `wrong` where it takes none.
+    pub(crate) fn read_next<T, R, W>(&mut self, read: R, wrong: W) -> Result<T, LineError<'a>>
+    where
+        R: FnOnce(&'a str) -> Option<T>,
+        W: FnOnce(Option<&'a str>) -> LineError<'a>,
+        requires reads { R.IsAlwaysCallable read }
+        requires tells { W.IsAlwaysCallable wrong }
+        ensures { ReadNext (R.post read) (W.post wrong) (left self.old) result (left self.new) }
+    {
+        let word = self.next_word();
+        word.and_then(read).ok_or(wrong(word))
+    }
+
+    /// The parts that all the words left write.
+    pub(crate) fn parts(self) -> Result<Vec<Part>, LineError<'a>>
+        ensures { MatchResult result (λ parts. AllParts (left self.entry) parts.items) (NotParts (left self.entry)) }
+    {
+        let mut parts = Vec::new(self.heap);
+        for word in self.words {
+            let Some(part) = read::part(word) else {
+                return Err(LineError::NotPart {
+                    count: parts.len() + 1,
+                    word,
+                });
+            };
+            parts.push(part)?;
+        }
+        Ok(parts)
+    }
+}
