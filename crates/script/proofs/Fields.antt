@@ -1,8 +1,12 @@
--- How a word falls into fields at a cut, and at its colons into those of a part. Assumes nothing.
-use Rattle.std.proofs.Common.{◌≡◌, ℕ, suc, ◌<◌, Bool, true, false, eqb, List, [], ◌∷◌, ◌++◌, length, get_or, Some, None, Option, sym, refl, ap, ◌∙◌, arith, Bor}
-use Rattle.std.proofs.lemmas.Str.Pattern.{IsSplitOnceResult, split_parts}
-use Rattle.std.proofs.lemmas.Bool.{cond-true, cond-false, eq-eqb, ne_eqb, eqb-true, and_left, and_right}
-use Rattle.script.specs.Reads.{digit, digits, number_read, onto, fields, part_of_fields, of_fields, part_read}
+-- How `split` gives the fields of a word. Assumes nothing.
+use Rattle.std.proofs.Common.{◌≡◌, ℕ, suc, ◌<◌, true, false, List, [], ◌∷◌, ◌++◌, length, get_or, take, drop, Some, None, Option, is_some, sym, refl, ap, subst, ◌∙◌, append_assoc, append-nil, arith, Bor, length-drop}
+use lib.ListN.{take-append-drop}
+use Rattle.std.specs.declared.str.Split.{Split}
+use Rattle.std.specs.Str.Iter.{text_or_empty, split_text, split_has_more, split_pattern, split_rest, split_steps}
+use Rattle.std.specs.Str.Pattern.{FindsChar, IsSplitAtFirstMatch}
+use Rattle.std.proofs.lemmas.Str.Pattern.{drop_at_char, NoCharPasses-char}
+use Rattle.std.proofs.lemmas.Bool.{cond-true, cond-false, eq-eqb, ne_eqb}
+use Rattle.script.specs.Reads.{onto, fields}
 
 -- no byte is the cut
 abbrev Plain : ℕ → List ℕ → Type 0
@@ -19,76 +23,66 @@ fields_cut : (c : ℕ) (xs ys : List ℕ) → Plain c xs → fields c (xs ++ (c 
 fields_cut c [] ys p = cond-true _ _ _ (eq-eqb c c refl)
 fields_cut c (b ∷ xs) ys p = cond-false _ _ _ (ne_eqb b c (p 0 (omega arith))) ∙ ap (onto b) (fields_cut c xs ys (later c b xs p))
 
--- what `split_once` says where it finds no cut, and where it finds one
-pub uncut : (c : ℕ) → c < 128 → (bs : List ℕ) → IsSplitOnceResult c bs None → fields c bs ≡ bs ∷ []
-uncut c ascii bs h = fields_plain c bs (split_parts c bs None h ascii)
+-- the fields that come of a text, if it is there
+abbrev to_come : ℕ → Option (Bor (List ℕ)) → List (List ℕ)
+to_come c None = []
+to_come c (Some w) = fields c w.now
 
-pub cut : (c : ℕ) → c < 128 → (bs : List ℕ) (x y : Bor (List ℕ)) → IsSplitOnceResult c bs (Some (x, y)) → fields c bs ≡ x.now ∷ fields c y.now
-cut c ascii bs x y h =
-    let parts = split_parts c bs (Some (x, y)) h ascii in
-    ap (fields c) parts.0 ∙ fields_cut c x.now y.now parts.1
+-- the fields that a split has still to give
+abbrev pub fields_left : ℕ → Split ℕ → List (List ℕ)
+fields_left c s = to_come c (split_rest s)
 
--- a text is one field, or it is two fields and more, and then it is no number
-data Shape (bs : List ℕ) : Type 0 where
-  one : fields 58 bs ≡ bs ∷ [] → Shape bs
-  more : (f g : List ℕ) (gs : List (List ℕ)) → fields 58 bs ≡ f ∷ g ∷ gs → digits bs ≡ false → Shape bs
+none_came : (c : ℕ) (r : Option (Bor (List ℕ))) (bs : List ℕ) → is_some r ≡ true → text_or_empty r ≡ bs → fields c bs ≡ to_come c r
+none_came c None bs more is = cc
+none_came c (Some w) bs more is = ap (fields c) (sym is)
 
-shape_onto : (b : ℕ) (bs : List ℕ) → eqb b 58 ≡ false → Shape bs → Shape (b ∷ bs)
-shape_onto b bs e (one h) = one (cond-false _ _ _ e ∙ ap (onto b) h)
-shape_onto b bs e (more f g gs h n) = more (b ∷ f) g gs (cond-false _ _ _ e ∙ ap (onto b) h) (and_right (digit b) (digits bs) n)
-
-no_digit : (b : ℕ) (bs : List ℕ) → eqb b 58 ≡ true → digits (b ∷ bs) ≡ false
-no_digit b bs e = ap (λ x. digits (x ∷ bs)) (eqb-true b 58 e)
-
-shape_colon : (b : ℕ) (bs : List ℕ) → eqb b 58 ≡ true → Shape bs → Shape (b ∷ bs)
-shape_colon b bs e (one h) = more [] bs [] (cond-true _ _ _ e ∙ ap (λ fs. [] ∷ fs) h) (no_digit b bs e)
-shape_colon b bs e (more f g gs h n) = more [] f (g ∷ gs) (cond-true _ _ _ e ∙ ap (λ fs. [] ∷ fs) h) (no_digit b bs e)
-
-shape_at : (b : ℕ) (bs : List ℕ) (t : Bool) → eqb b 58 ≡ t → Shape bs → Shape (b ∷ bs)
-shape_at b bs true e s = shape_colon b bs e s
-shape_at b bs false e s = shape_onto b bs e s
-
-shape : (bs : List ℕ) → Shape bs
-shape [] = one refl
-shape (b ∷ bs) = shape_at b bs (eqb b 58) refl (shape bs)
-
-no_number : (bs : List ℕ) → digits bs ≡ false → number_read bs ≡ None
-no_number [] n = refl
-no_number (b ∷ bs) n = cond-false _ _ _ (and_left (digits (b ∷ bs)) _ n)
-
-none_last : (k s l : Option ℕ) → part_of_fields k s l None ≡ None
-none_last None s l = refl
-none_last (Some k) None l = refl
-none_last (Some k) (Some s) None = refl
-none_last (Some k) (Some s) (Some l) = refl
-
--- the fourth field is the rest of the word, since a number has no colon
-last_field : (k s l h : List ℕ) → of_fields (k ∷ s ∷ l ∷ fields 58 h) ≡ part_of_fields (number_read k) (number_read s) (number_read l) (number_read h)
-last_field k s l h = at (shape h)
+one_comes : (c : ℕ) → c < 128 → (r t : Option (Bor (List ℕ))) (x : List ℕ) → true ≡ is_some r → IsSplitAtFirstMatch (FindsChar c) (text_or_empty r) x (is_some t) (text_or_empty t) → to_come c r ≡ x ∷ to_come c t
+one_comes c ascii None t x more h = cc
+one_comes c ascii (Some w) None x more (short, (None, lacks, (is, dead))) = fields_plain c w.now (λ k. NoCharPasses-char c _ k lacks ascii) ∙ ap (λ f. f ∷ []) (sym is)
+one_comes c ascii (Some w) (Some y) x more (short, (None, lacks, (is, dead))) = cc
+one_comes c ascii (Some w) t x more (short, (Some (i, j), found, cuts)) = at t (cuts past)
   where
-    at : Shape h → of_fields (k ∷ s ∷ l ∷ fields 58 h) ≡ part_of_fields (number_read k) (number_read s) (number_read l) (number_read h)
-    at (one e) = ap (λ fs. of_fields (k ∷ s ∷ l ∷ fs)) e
-    at (more f g gs e n) =
-        ap (λ fs. of_fields (k ∷ s ∷ l ∷ fs)) e ∙ sym (ap (part_of_fields (number_read k) (number_read s) (number_read l)) (no_number h n) ∙ none_last (number_read k) (number_read s) (number_read l))
+    here : drop i w.now ≡ c ∷ drop j w.now
+    here = drop_at_char c w.now i j found.1 ascii
 
--- a word of one field, of two, of three, and of four or more
-module _ (word : List ℕ) where
-  pub one_field : IsSplitOnceResult 58 word None → None ≡ part_read word
-  one_field h = sym (ap of_fields (uncut 58 (omega arith) word h))
+    past : 0 < j
+    past = omega (arith, ap length here, length-drop i w.now, length-drop j w.now)
 
-  module _ (kind rest : Bor (List ℕ)) (first : IsSplitOnceResult 58 word (Some (kind, rest))) where
-    begins : (fs : List (List ℕ)) → fields 58 rest.now ≡ fs → part_read word ≡ of_fields (kind.now ∷ fs)
-    begins fs e = ap of_fields (cut 58 (omega arith) word kind rest first ∙ ap (λ l. kind.now ∷ l) e)
+    at : (u : Option (Bor (List ℕ))) → (x ≡ take i w.now) × (is_some u ≡ true) × (text_or_empty u ≡ drop j w.now) → fields c w.now ≡ x ∷ to_come c u
+    at None e = cc
+    at (Some y) e =
+        ap (fields c) (sym (take-append-drop i w.now) ∙ ap (λ l. take i w.now ++ l) here)
+        ∙ fields_cut c (take i w.now) (drop j w.now) (λ k. NoCharPasses-char c _ k found.0 ascii)
+        ∙ (λ k. sym e.0 k ∷ fields c (sym e.2 k))
 
-    pub two_fields : IsSplitOnceResult 58 rest.now None → None ≡ part_read word
-    two_fields h = sym (begins _ (uncut 58 (omega arith) rest.now h))
+none_comes : (c : ℕ) (r : Option (Bor (List ℕ))) → false ≡ is_some r → to_come c r ≡ []
+none_comes c None none = refl
+none_comes c (Some w) none = cc
 
-    module _ (symbol last : Bor (List ℕ)) (second : IsSplitOnceResult 58 rest.now (Some (symbol, last))) where
-      goes_on : (fs : List (List ℕ)) → fields 58 last.now ≡ fs → part_read word ≡ of_fields (kind.now ∷ symbol.now ∷ fs)
-      goes_on fs e = begins _ (cut 58 (omega arith) rest.now symbol last second ∙ ap (λ l. symbol.now ∷ l) e)
+-- what `next` says of a field, and after the last
+module _ (c : ℕ) (s t : Split ℕ) where
+  pub next_left : c < 128 → split_pattern s ≡ c → (x : Bor (List ℕ)) → split_steps FindsChar (λ c d. d ≡ c) s (Some x) t → (split_pattern t ≡ c) × (fields_left c s ≡ x.now ∷ fields_left c t)
+  next_left ascii is x steps = (
+    steps.1.0 ∙ is,
+    one_comes c ascii (split_rest s) (split_rest t) x.now steps.0 (subst (λ p. IsSplitAtFirstMatch (FindsChar p) (split_text s) x.now (split_has_more t) (split_text t)) is steps.1.1),
+  )
 
-      pub three_fields : IsSplitOnceResult 58 last.now None → None ≡ part_read word
-      three_fields h = sym (goes_on _ (uncut 58 (omega arith) last.now h))
+  pub none_left : split_steps FindsChar (λ c d. d ≡ c) s None t → fields_left c s ≡ []
+  none_left steps = none_comes c (split_rest s) steps.0
 
-      pub four_fields : (low high : Bor (List ℕ)) → IsSplitOnceResult 58 last.now (Some (low, high)) → part_of_fields (number_read kind.now) (number_read symbol.now) (number_read low.now) (number_read high.now) ≡ part_read word
-      four_fields low high h = sym (goes_on _ (cut 58 (omega arith) last.now low high h) ∙ last_field kind.now symbol.now low.now high.now)
+-- the fields seen have come of the text bs, and the split s has the others
+pub record Come (c : ℕ) (bs : List ℕ) (seen : List (List ℕ)) (s : Split ℕ) : Type 0 where
+  pub pattern : split_pattern s ≡ c
+  pub is : fields c bs ≡ seen ++ fields_left c s
+
+pub none_yet : {c : ℕ} {bs : List ℕ} {s : Split ℕ} → split_pattern s ≡ c → split_has_more s ≡ true → split_text s ≡ bs → Come c bs [] s
+none_yet {s = s} p more text = record { pattern = p; is = none_came _ (split_rest s) _ more text }
+
+module _ {c : ℕ} {bs : List ℕ} {seen : List (List ℕ)} {s : Split ℕ} (so : Come c bs seen s) (t : Split ℕ) where
+  pub one_more : c < 128 → (x : Bor (List ℕ)) → split_steps FindsChar (λ c d. d ≡ c) s (Some x) t → Come c bs (seen ++ (x.now ∷ [])) t
+  one_more ascii x steps =
+      let next = next_left c s t ascii so.pattern x steps in
+      record { pattern = next.0; is = so.is ∙ ap (λ fs. seen ++ fs) next.1 ∙ sym (append_assoc seen (x.now ∷ []) (fields_left c t)) }
+
+  pub no_more : split_steps FindsChar (λ c d. d ≡ c) s None t → fields c bs ≡ seen
+  no_more steps = so.is ∙ ap (λ fs. seen ++ fs) (none_left c s t steps) ∙ append-nil seen

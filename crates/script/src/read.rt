@@ -32,11 +32,15 @@ fn part_of(kind: &str, symbol: &str, low: &str, high: &str) -> Option<Part>
 pub fn part(word: &str) -> Option<Part>
     ensures { result ≡ part_read word.now }
 {
-    let (kind, rest) = word.split_once(':')?;
-    let (symbol, rest) = rest.split_once(':')?;
-    // A colon more ends up in the last field, which is then no number.
-    let (low, high) = rest.split_once(':')?;
-    part_of(kind, symbol, low, high)
+    let mut fields = word.split(':');
+    let kind = fields.next()?;
+    let symbol = fields.next()?;
+    let low = fields.next()?;
+    let high = fields.next()?;
+    match fields.next() {
+        None => part_of(kind, symbol, low, high),
+        Some(_) => None,
+    }
 }
 
 /// The set that a word writes as its symbols with commas between them, or as `-`.
@@ -48,10 +52,8 @@ pub fn set(word: &str) -> Option<SymbolSet>
         return Some(SymbolSet::EMPTY);
     }
     let mut seen = SymbolSet::EMPTY;
-    let mut rest = word;
-    while let Some((field, more)) = rest.split_once(',') {
+    for field in word.split(',') {
         seen = seen.union(SymbolSet::of(number(field)?));
-        rest = more;
     }
-    Some(seen.union(SymbolSet::of(number(rest)?)))
+    Some(seen)
 }
