@@ -27,8 +27,3 @@ loop-word-preserved c =
     let pushed = chosen _ _ _ _ c.push.ensures.items (ap is_ok c.in_ok-push.was) in
     let first = first_of _ c.in-Some.word.now _ c.in-Some.ensures.steps in
     subst (Sofar _ _) (sym pushed) (one_more c.loop-word.invariant _ _ _ first (sym c.in-Some-part.ensures))
-
-pub returns-in_err-push : goal.returns-in_err-push
-returns-in_err-push c =
-    let p = err_from_is_err_and c.from_residual.result c.from_residual.ensures.1 in
-    rw (p.1, p.2) (inl refl)
