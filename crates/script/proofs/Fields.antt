@@ -71,18 +71,18 @@ module _ (c : ℕ) (s t : Split ℕ) where
   none_left steps = none_comes c (split_rest s) steps.0
 
 -- the fields seen have come of the text bs, and the split s has the others
-pub record Come (c : ℕ) (bs : List ℕ) (seen : List (List ℕ)) (s : Split ℕ) : Type 0 where
+pub record Seen (c : ℕ) (bs : List ℕ) (seen : List (List ℕ)) (s : Split ℕ) : Type 0 where
   pub pattern : split_pattern s ≡ c
   pub is : fields c bs ≡ seen ++ fields_left c s
 
-pub none_yet : {c : ℕ} {bs : List ℕ} {s : Split ℕ} → split_pattern s ≡ c → split_has_more s ≡ true → split_text s ≡ bs → Come c bs [] s
-none_yet {s = s} p more text = record { pattern = p; is = none_came _ (split_rest s) _ more text }
+pub none_seen : {c : ℕ} {bs : List ℕ} {s : Split ℕ} → split_pattern s ≡ c → split_has_more s ≡ true → split_text s ≡ bs → Seen c bs [] s
+none_seen {s = s} p more text = record { pattern = p; is = none_came _ (split_rest s) _ more text }
 
-module _ {c : ℕ} {bs : List ℕ} {seen : List (List ℕ)} {s : Split ℕ} (so : Come c bs seen s) (t : Split ℕ) where
-  pub one_more : c < 128 → (x : Bor (List ℕ)) → split_steps FindsChar (λ c d. d ≡ c) s (Some x) t → Come c bs (seen ++ (x.now ∷ [])) t
-  one_more ascii x steps =
+module _ {c : ℕ} {bs : List ℕ} {seen : List (List ℕ)} {s : Split ℕ} (so : Seen c bs seen s) (t : Split ℕ) where
+  pub next_seen : c < 128 → (x : Bor (List ℕ)) → split_steps FindsChar (λ c d. d ≡ c) s (Some x) t → Seen c bs (seen ++ (x.now ∷ [])) t
+  next_seen ascii x steps =
       let next = next_left c s t ascii so.pattern x steps in
       record { pattern = next.0; is = so.is ∙ ap (λ fs. seen ++ fs) next.1 ∙ sym (append_assoc seen (x.now ∷ []) (fields_left c t)) }
 
-  pub no_more : split_steps FindsChar (λ c d. d ≡ c) s None t → fields c bs ≡ seen
-  no_more steps = so.is ∙ ap (λ fs. seen ++ fs) (none_left c s t steps) ∙ append-nil seen
+  pub all_seen : split_steps FindsChar (λ c d. d ≡ c) s None t → fields c bs ≡ seen
+  all_seen steps = so.is ∙ ap (λ fs. seen ++ fs) (none_left c s t steps) ∙ append-nil seen

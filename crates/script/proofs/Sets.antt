@@ -1,9 +1,8 @@
 -- The set that fields write, symbol by symbol. Assumes nothing.
-use Rattle.std.proofs.Common.{◌≡◌, ℕ, ◌≤◌, Bool, true, false, ◌⊎◌, List, [], ◌∷◌, Some, None, codes, Option, Decides, sym, refl, ap, ◌∙◌, subst, inl, inr}
+use Rattle.std.proofs.Common.{◌≡◌, ℕ, ◌≤◌, false, ◌⊎◌, List, [], ◌∷◌, Some, None, codes, Option, sym, refl, ap, ◌∙◌, subst, inl, inr}
 use lib.Bits.{bit_or}
 use Rattle.std.specs.Str.{bytes_eq}
-use Rattle.std.proofs.lemmas.Slice.Eq.{bytes_eq-Decides}
-use Rattle.std.proofs.lemmas.Bool.{cond-false, cases_Bool}
+use Rattle.std.proofs.lemmas.Bool.{cond-false}
 use Rattle.parts.specs.Sets.{In, only}
 use Rattle.parts.specs.declared.symbols.SymbolSet.{SymbolSet}
 use Rattle.parts.proofs.SymbolSets.{in_left, in_right, in_either, in_none, in_only, only_in}
@@ -13,9 +12,6 @@ use Rattle.script.specs.Reads.{number_read, fields, set_after, set_read, Names, 
 abbrev Has : ℕ → List (List ℕ) → Option SymbolSet → Type 0
 Has old fs None = Unit {0}
 Has old fs (Some set) = (s : ℕ) → (In set.bits s → In old s ⊎ ((s ≤ 63) × Names fs s)) × (In old s ⊎ ((s ≤ 63) × Names fs s) → In set.bits s)
-
-some_same : (x s : ℕ) → ◌≡◌ {A = Option ℕ} (Some x) (Some s) → x ≡ s
-some_same x s e = cc
 
 has_more : (old x : ℕ) (f : List ℕ) (fs : List (List ℕ)) (o : Option SymbolSet) → number_read f ≡ Some x → Has (bit_or old (only x)) fs o → Has old (f ∷ fs) o
 has_more old x f fs None e h = tt
@@ -29,7 +25,7 @@ has_more old x f fs (Some set) e h = λ s. (
     before s (inr j) = inr (j.0, inl (e ∙ ap Some (in_only x s j)))
 
     after : (s : ℕ) → s ≤ 63 → Names (f ∷ fs) s → In (bit_or old (only x)) s ⊎ ((s ≤ 63) × Names fs s)
-    after s low (inl r) = inl (in_right old (only x) s (subst (λ n. In (only n) s) (sym (some_same x s (sym e ∙ r))) (only_in s low)))
+    after s low (inl r) = let same : s ≡ x = cc in inl (in_right old (only x) s (subst (λ n. In (only n) s) same (only_in s low)))
     after s low (inr n) = inr (low, n)
 
 has_after : (old : ℕ) (fs : List (List ℕ)) → Has old fs (set_after old fs)
@@ -47,18 +43,10 @@ after_some old x f fs e = ap (λ o. elim o [ None ↦ None | Some s ↦ set_afte
 pub after_none : (old : ℕ) (f : List ℕ) (fs : List (List ℕ)) → number_read f ≡ None → set_after old (f ∷ fs) ≡ None
 after_none old f fs e = ap (λ o. elim o [ None ↦ None | Some s ↦ set_after (bit_or old (only s)) fs ]) e
 
--- what the test for '-' answers
-pub dash_test : (word : List ℕ) (r : Bool) → r ≡ bytes_eq word (codes "-") → Decides r (word ≡ codes "-")
-dash_test word r e = subst (λ b. Decides b (word ≡ codes "-")) (sym e) (bytes_eq-Decides word (codes "-"))
-
 -- what is read of a word other than '-'
 module _ (word : List ℕ) (r : Option SymbolSet) (e : r ≡ set_after 0 (fields 44 word)) where
-  pub plain_read : (word ≡ codes "-" → ⊥) → r ≡ set_read word
-  plain_read other = e ∙ sym (cond-false _ _ _ (unlike (cases_Bool (bytes_eq word (codes "-")))))
-    where
-      unlike : (bytes_eq word (codes "-") ≡ true) ⊎ (bytes_eq word (codes "-") ≡ false) → bytes_eq word (codes "-") ≡ false
-      unlike (inl t) = absurd (other ((bytes_eq-Decides word (codes "-")).0 t))
-      unlike (inr f) = f
+  pub plain_read : bytes_eq word (codes "-") ≡ false → r ≡ set_read word
+  plain_read other = e ∙ sym (cond-false _ _ _ other)
 
   has_since : (o : Option SymbolSet) → Has 0 (fields 44 word) o → SetHas word o
   has_since None h = tt

@@ -2,5 +2,6 @@ pub mod Calls
 pub mod Complaints
 pub mod Lines
 pub mod Questions
+pub mod Reader
 pub mod Reads
 pub mod Words

@@ -3,7 +3,8 @@ use Rattle.std.specs.Prelude.{◌≡◌, ℕ, ◌⊎◌, List, [], ◌∷◌, So
 use Rattle.std.specs.Borrow.{Bor}
 use Rattle.parts.specs.declared.symbols.SymbolSet.{SymbolSet}
 use Rattle.script.specs.Reads.{number_read, set_read}
-use Rattle.script.specs.Words.{Begins, Comes, ReadNext}
+use Rattle.script.specs.Reader.{ReadNext}
+use Rattle.script.specs.Words.{Begins, Comes}
 use Rattle.script.specs.declared.error.LineError.{LineError}
 use Rattle.script.specs.declared.error.LineError.TheVariants.{NoSuchQuestion, NotSet, NotSymbol, NotColon}
 use Rattle.script.specs.declared.question.Question.{Question}

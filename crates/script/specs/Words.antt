@@ -1,15 +1,8 @@
 -- The words of a text, one after another. Assumes nothing.
-use Rattle.std.specs.Prelude.{◌≡◌, ℕ, ◌<◌, List, [], ◌∷◌, ◌++◌, length, Some, None, Ok, Err, IfSome, Option, Result}
+use Rattle.std.specs.Prelude.{◌≡◌, ℕ, ◌<◌, List, [], ◌∷◌, ◌++◌, length, Some, None, Option}
 use Rattle.std.specs.Borrow.{Bor}
 use Rattle.std.specs.Char.{is_whitespace, is_not_whitespace}
 use Rattle.std.specs.Str.{NoCharPasses, EmptyOrStartsWithPassing}
-use Rattle.std.specs.Str.Iter.{split_whitespace_rest}
-use Rattle.script.specs.declared.error.LineError.{LineError}
-use Rattle.script.specs.declared.reader.Reader.{Reader}
-
--- what a reader has still to read
-abbrev pub left : Reader → List ℕ
-left reader = split_whitespace_rest reader.words
 
 -- bs is white space, the word w, and rest, which is empty or begins with white space
 pub record First (bs w rest : List ℕ) : Type 0 where
@@ -33,8 +26,3 @@ Next bs None rest = NoCharPasses is_not_whitespace bs × (rest ≡ bs)
 -- the first words of bs are ws, and w is next
 abbrev pub Comes : List ℕ → List (List ℕ) → Option (Bor (List ℕ)) → Type 0
 Comes bs ws w = (mid : List ℕ) × (rest : List ℕ) × Begins bs ws mid × Next mid w rest
-
--- the first word of bs gives x, and rest follows it; or it gives nothing, or bs has no word, and e tells of what comes in its place
-abbrev pub ReadNext : {X : Type 0} → (Bor (List ℕ) → Option X → Type 0) → (Option (Bor (List ℕ)) → LineError → Type 0) → List ℕ → Result X LineError → List ℕ → Type 0
-ReadNext Gives Tells bs (Ok x) rest = (w : Bor (List ℕ)) × First bs w.now rest × Gives w (Some x)
-ReadNext Gives Tells bs (Err e) rest = (w : Option (Bor (List ℕ))) × Tells w e × Next bs w rest × IfSome w (λ v. Gives v None)

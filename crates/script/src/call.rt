@@ -1,7 +1,7 @@
 //! From a line of a script to the call that it makes, or to what is wrong with it.
 ghost use Rattle.std.specs.Prelude.{MatchResult};
 ghost use Rattle.script.specs.Lines.{AllAsk, NotAsk, CallRead, LineRead};
-ghost use Rattle.script.specs.Words.{left};
+ghost use Rattle.script.specs.Reader.{left};
 
 use crate::calls::Calls;
 use crate::error::LineError;

@@ -1,7 +1,8 @@
 //! A question to a model, and the words that ask it.
 ghost use Rattle.std.specs.Prelude.{codes, MatchResult};
 ghost use Rattle.script.specs.Questions.{NoColon, SetNext, SymbolNext, QuestionNext};
-ghost use Rattle.script.specs.Words.{left, First};
+ghost use Rattle.script.specs.Reader.{left};
+ghost use Rattle.script.specs.Words.{First};
 
 use crate::error::LineError;
 use crate::read;

@@ -1,7 +1,8 @@
 //! Reads a line from its front to its end, word by word.
 ghost use Rattle.std.specs.Prelude.{◌≡◌, MatchResult};
 ghost use Rattle.script.specs.Lines.{AllParts, NotParts};
-ghost use Rattle.script.specs.Words.{left, Next, ReadNext};
+ghost use Rattle.script.specs.Reader.{left, ReadNext};
+ghost use Rattle.script.specs.Words.{Next};
 
 use crate::error::LineError;
 use crate::read;

@@ -1,9 +1,8 @@
 use Rattle.std.proofs.Common.{ℕ, Some, sym, ap, ◌∙◌, arith}
 use lib.Bits.{bit_or}
-use Rattle.std.proofs.lemmas.Bool.Decides.{not_from_Decides}
 use Rattle.script.specs.Reads.{set_after}
 use Rattle.script.proofs.Fields.{fields_left, next_left, none_left}
-use Rattle.script.proofs.Sets.{after_some, after_none, dash_test, plain_read, plain_has}
+use Rattle.script.proofs.Sets.{after_some, after_none, plain_read, plain_has}
 use Rattle.script.proofs.read.set.Goals as goal
 
 pub returns-in_err-number-clause-read : goal.returns-in_err-number-clause-read
@@ -14,7 +13,7 @@ returns-in_err-number-clause-read c =
     let next = next_left 44 c.loop-field.field-iterator c.next.new.self (omega arith) c.loop-field.invariant.0 field c.in-Some.ensures.steps in
     let none = after_none old field.now (fields_left 44 c.next.new.self) (sym c.in_err-number.ensures) in
     let is = c.from_residual.ensures ∙ sym (c.loop-field.invariant.1 ∙ ap (set_after old) next.1 ∙ none) in
-    plain_read word _ is (not_from_Decides _ (dash_test word _ c.eq.ensures) c.if-eq.false)
+    plain_read word _ is (sym c.eq.ensures ∙ c.if-eq.false)
 
 pub loop-field-preserved : goal.loop-field-preserved
 loop-field-preserved c =

@@ -1,8 +1,7 @@
-use Rattle.std.proofs.Common.{◌≡◌, ◌+◌, length, is_ok, vec_items, sym, refl, ap, subst, inl, inr, arith}
+use Rattle.std.proofs.Common.{◌≡◌, ◌+◌, length, is_ok, vec_items, sym, ap, subst, inr, arith}
 use Rattle.script.proofs.Words.{Sofar, first_of, begins_more, counted, one_more}
 use Rattle.script.specs.declared.error.LineError.TheVariants.{NotPart}
 use Rattle.std.proofs.ResultArms.{chosen}
-use Rattle.std.proofs.lemmas.Result.{err_from_is_err_and}
 use Rattle.script.proofs.reader.Reader.parts.Goals as goal
 
 pub returns-in_default : goal.returns-in_default

@@ -1,7 +1,7 @@
 use Rattle.std.proofs.Common.{vec_items}
 use Rattle.std.specs.Str.Iter.{split_whitespace_rest}
 use Rattle.script.proofs.Words.{Sofar}
-use Rattle.script.specs.Words.{left}
+use Rattle.script.specs.Reader.{left}
 use Rattle.script.proofs.reader.Reader.parts.Given as goal
 
 abbrev pub invariant-loop-word : goal.invariant-loop-word
