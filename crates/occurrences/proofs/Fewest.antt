@@ -1,7 +1,7 @@
 -- The fewest occurrences of a symbol, kind by kind. Assumes nothing.
 use Rattle.std.proofs.Common.{◌≡◌, ℕ, zero, suc, ◌+◌, ◌*◌, ◌≤◌, min, Bool, true, false, [], ◌∷◌, ◌++◌, Some, None, Option, sym, refl, ap, ◌∙◌, subst, ◌⊎◌, inl, inr, ⊎_elim, mul-le-mul_right, mul-zero, arith}
 use Rattle.std.specs.Option.{option_or}
-use native.Mathlib.Nat.{one-le-mul}
+use Rattle.std.proofs.Math.Nat.{one-le-mul}
 use Rattle.std.proofs.lemmas.Bool.{cases_eq, cases_lt}
 use Rattle.models.specs.Messages.{Message, HasOneOf, Occurs, occurrences}
 use Rattle.models.specs.Trees.{Tree, Fits, Carries, Bounds, Formed}
@@ -26,7 +26,7 @@ record Least (s : ℕ) (t : Tree) (n : ℕ) : Type 0 where
 
 is_least : (s : ℕ) (t : Tree) (n : ℕ) → IsFewest s t n → Least s t n
 is_least s t n ((m, f, o, e), h) = record {
-  some = let some = counted_some s m o in omega arith;
+  some = omega (arith, counted_some s m o);
   found = (m, f, e);
   least = λ x fit some. h x fit (some_counted s x some);
 }
@@ -34,7 +34,6 @@ is_least s t n ((m, f, o, e), h) = record {
 is_fewest : (s : ℕ) (t : Tree) (n : ℕ) → Least s t n → IsFewest s t n
 is_fewest s t n h =
     let (m, f, e) = h.found in
-    let some = h.some in
     ((m, f, some_counted s m (omega arith), e), λ x fit o. h.least x fit (counted_some s x o))
 
 -- the message has s
@@ -66,26 +65,23 @@ side_least s l r u mix n lacks here h = record {
   found = mixed s l r u mix n 0 n (omega arith) h.found lacks;
   least = λ x fit some.
       let (a, b, f, g, e) = mix.parts x fit in
-      let fewest = h.least a f (here a b f g (omega arith)) in
-      omega arith;
+      omega (arith, h.least a f (here a b f g (omega arith)));
 }
 
 both_least : (s : ℕ) (l r u : Tree) → Adds s l r u → (b c : Bool) (m n : ℕ) → Always b (Fits l) (Has s) → Always c (Fits r) (Has s)
     → Least s l m → Least s r n → Least s u (fewest_of_sides b c m n)
 both_least s l r u mix true true m n every_l every_r h k = record {
-  some = let some = h.some in omega arith;
+  some = omega arith;
   found = mixed s l r u mix m n (m + n) refl h.found k.found;
   least = λ x fit some.
       let (a, b, f, g, e) = mix.parts x fit in
-      let left = h.least a f (every_l a f) in
-      let right = k.least b g (every_r b g) in
-      omega arith;
+      omega (arith, h.least a f (every_l a f), k.least b g (every_r b g));
 }
 both_least s l r u mix true false m n every_l lacks_r h k = side_least s l r u mix m (without s r lacks_r) (λ a b f g some. every_l a f) h
 both_least s l r u mix false true m n lacks_l every_r h k =
     side_least s r l u (flipped s l r u mix) n (without s l lacks_l) (λ b a g f some. every_r b g) k
 both_least s l r u mix false false m n lacks_l lacks_r h k = record {
-  some = let left = h.some in let right = k.some in omega arith;
+  some = omega arith;
   found = elim (cases_lt m n) [
     | inl lt ↦ mixed s l r u mix m 0 (min m n) (omega arith) h.found (without s r lacks_r)
     | inr ge ↦ mixed s l r u mix 0 n (min m n) (omega arith) (without s l lacks_l) k.found
@@ -93,8 +89,8 @@ both_least s l r u mix false false m n lacks_l lacks_r h k = record {
   least = λ x fit some.
       let (a, b, f, g, e) = mix.parts x fit in
       elim (cases_eq (occurrences s a) 0) [
-        | inl none ↦ let right = k.least b g (omega arith) in omega arith
-        | inr has ↦ let left = h.least a f (omega arith) in omega arith
+        | inl none ↦ omega (arith, k.least b g (omega arith))
+        | inr has ↦ omega (arith, h.least a f (omega arith))
       ];
 }
 
@@ -102,14 +98,11 @@ both_least s l r u mix false false m n lacks_l lacks_r h k = record {
 side_fewest : (s : ℕ) (l r u : Tree) → Adds s l r u → (o : Option Figure) → Formed r → (Carries r s → ⊥) → FewestIs s l o → FewestIs s u o
 side_fewest s l r u mix None formed none h = λ (m, fit, o).
     let (a, b, f, g, e) = mix.parts m fit in
-    let some = counted_some s m o in
-    let left = never s l h a f in
-    let right = never s r none b g in
-    omega arith
+    omega (arith, counted_some s m o, never s l h a f, never s r none b g)
 side_fewest s l r u mix (Some x) formed none (n, e, h) =
     let (b, g) = some_message r formed in
     let lacks : Found s r 0 = (b, g, never s r none b g) in
-    let whole = side_least s l r u mix n lacks (λ p q f g some. let right = never s r none q g in omega arith) (is_least s l n h) in
+    let whole = side_least s l r u mix n lacks (λ p q f g some. omega (arith, never s r none q g)) (is_least s l n h) in
     (n, e, is_fewest s u n whole)
 
 -- one of the sides never has it
@@ -136,14 +129,14 @@ choice_fewest s l r a b h k =
     let left = is_least s l a h in
     let right = is_least s r b k in
     is_fewest s (choice l r) (min a b) (record {
-      some = let p = left.some in let q = right.some in omega arith;
+      some = omega arith;
       found = elim (cases_lt a b) [
         | inl lt ↦ let (m, f, e) = left.found in (m, inl f, omega arith)
         | inr ge ↦ let (m, f, e) = right.found in (m, inr f, omega arith)
       ];
       least = λ m fit some. ⊎_elim
-          (λ f. let p = left.least m f some in omega arith)
-          (λ f. let q = right.least m f some in omega arith)
+          (λ f. omega (arith, left.least m f some))
+          (λ f. omega (arith, right.least m f some))
           fit;
     })
 
@@ -157,13 +150,12 @@ every_repeated s t low high n bounds every h =
       found = again s t low high low n (between_low low high bounds) piece.found;
       least = λ x (j, w, q) some.
           let pieces = joined_least s n (Fits t) (λ a g. piece.least a g (every a g)) j x q in
-          let more = mul-le-mul_right n w.0 in
-          omega arith;
+          omega (arith, mul-le-mul_right n w.0);
     })
 
 -- one piece that has it is enough
 pub once_repeated : (s : ℕ) (t : Tree) (low high n : ℕ) → Bounds low high → Found s t 0 → IsFewest s t n → IsFewest s (count t low high) n
-once_repeated s t zero high n bounds lacks h = absurd (let some = bounds.0 in omega arith)
+once_repeated s t zero high n bounds lacks h = absurd (omega (arith, bounds.0))
 once_repeated s t (suc k) high n bounds (b, g, none) h =
     let piece = is_least s t n h in
     let (a, f, e) = piece.found in

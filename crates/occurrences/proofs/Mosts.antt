@@ -19,9 +19,10 @@ symbol_most s x n e = ((x ∷ [], refl, e), λ m f. omega (arith, ap (occurrence
 choice_most : (s : ℕ) (l r : Tree) (a b : ℕ) → IsMost s l a → IsMost s r b → IsMost s (choice l r) (max a b)
 choice_most s l r a b ((m, f, d), h) ((n, g, e), k) = (
   elim (cases_lt a b) [ inl lt ↦ (n, inr g, omega arith) | inr ge ↦ (m, inl f, omega arith) ],
-  λ x fit. ⊎_elim (λ p. let left = h x p in omega arith) (λ q. let right = k x q in omega arith) fit,
+  λ x fit. ⊎_elim (λ p. omega (arith, h x p)) (λ q. omega (arith, k x q)) fit,
 )
 
+-- the larger of two, by the derived order
 abbrev larger : Most → Most → Most
 larger = ord_max (order.ghosts).cmp
 
@@ -42,9 +43,7 @@ module _ (s : ℕ) (l r u : Tree) (mix : Adds s l r u) where
     mixed s l r u mix a b (a + b) refl f g,
     λ x fit.
         let (p, q, f, g, sum) = mix.parts x fit in
-        let left = h p f in
-        let right = k q g in
-        omega arith,
+        omega (arith, h p f, k q g),
   )
 
   pub side_endless : Formed r → Endless s l → Endless s u
@@ -59,8 +58,7 @@ module _ (s : ℕ) (t : Tree) (low high : ℕ) where
   endless_repeated bounds h = λ n.
       let (m, f, more) = h n in
       let (x, fit, e) = again s t low high low (occurrences s m) (between_low low high bounds) (m, f, refl) in
-      let times = le-mul_of_pos_right (occurrences s m) bounds.0 in
-      (x, fit, omega (arith, mul_comm low (occurrences s m)))
+      (x, fit, omega (arith, le-mul_of_pos_right (occurrences s m) bounds.0, mul_comm low (occurrences s m)))
 
   pub most_repeated_lem : (n : ℕ) → Bounds low high → 1 ≤ high → IsMost s t n → IsMost s (count t low high) (high * n)
   most_repeated_lem n bounds some (f, h) =
@@ -69,8 +67,7 @@ module _ (s : ℕ) (t : Tree) (low high : ℕ) where
         λ x (j, w, q).
             let pieces = joined_most s n (Fits t) h j x q in
             let few : j ≤ high = elim w.1 [ inl none ↦ omega arith | inr below ↦ below ] in
-            let more = mul-le-mul_right n few in
-            omega arith,
+            omega (arith, mul-le-mul_right n few),
       )
 
   -- nothing repeated is nothing
@@ -85,8 +82,7 @@ module _ (s : ℕ) (t : Tree) (low high : ℕ) where
   pub some_repeated : (n : ℕ) → high ≡ 0 → 1 ≤ n → IsMost s t n → Endless s (count t low high)
   some_repeated n endless some (f, h) = λ k.
       let (x, fit, times) = again s t low high (max low k) n (omega arith, inl endless) f in
-      let more = le-mul_of_pos_right (max low k) some in
-      (x, fit, omega arith)
+      (x, fit, omega (arith, le-mul_of_pos_right (max low k) some))
 
 -- a message that has s is not empty
 filled : (s : ℕ) (m : Message) → 1 ≤ occurrences s m → m ≡ [] → ⊥
@@ -99,7 +95,7 @@ nonempty_most s t (Ends x) formed (n, e, ((m, f, c), h)) = (
   e,
   (
     elim (cases_eq n 0) [
-      | inl none ↦ let (y, g, ne) = (messages t formed.0).1 formed.1 in (y, (g, ne), let most = h y g in omega arith)
+      | inl none ↦ let (y, g, ne) = (messages t formed.0).1 formed.1 in (y, (g, ne), omega (arith, h y g))
       | inr some ↦ (m, (f, filled s m (omega arith)), c)
     ],
     λ y (g, ne). h y g,
