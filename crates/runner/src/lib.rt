@@ -8,3 +8,41 @@ pub mod answering;
 pub mod failure;
 pub mod program;
 mod writing;
+
+#[cfg(test)]
+mod tests {
+    use crate::answering::answer_script;
+    use crate::failure::Failure;
+    use script::calls::Calls;
+    use std::test::Fail;
+
+    #[test]
+    fn a_whole_script(rt: HostRuntime) -> Result<(), Fail> {
+        let mut out = Vec::new(rt.alloc());
+        let text = "# a comment\n check  1:0:0:0\n\nask after 0 1 : 1:0:0:0\n";
+        let outcome = answer_script(rt.alloc(), Calls::CheckAndAsk, text, &mut out);
+        outcome.ok().ok_or("ended early")?;
+        let answers =
+            "check 1:0:0:0: 1 parts, symbols {0}, empty no, conflict-free\nask after 0 1 : 1:0:0:0: no\n";
+        assert_eq!(rt; out.as_slice(), answers.as_bytes());
+        Ok(())
+    }
+
+    #[test]
+    fn a_line_that_is_no_call(rt: HostRuntime) -> Result<(), Fail> {
+        let mut out = Vec::new(rt.alloc());
+        let text = "check\nask after 0 1 : 1:0:0:0\ncheck 1:0:0:0\n";
+        match answer_script(rt.alloc(), Calls::CheckOnly, text, &mut out) {
+            Err(Failure::BadLine { number, reason }) => {
+                assert_eq!(rt; number, 2);
+                assert_eq!(rt; reason.as_str(), "no such call: ask (calls: check)");
+            }
+            _ => return Err("no bad line".into()),
+        }
+        assert_eq!(rt;
+            out.as_slice(),
+            "check: refused 4, set, place 0\n".as_bytes()
+        );
+        Ok(())
+    }
+}

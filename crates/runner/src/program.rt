@@ -2,6 +2,7 @@
 use crate::answering::answer_script;
 use crate::failure::Failure;
 use script::calls::Calls;
+use std::io::Write;
 use std::{env, fs, io};
 
 /// What one program has of its own.
@@ -44,6 +45,10 @@ impl Program {
     }
 
     fn answer(&self, rt: &HostRuntime, text: &str) -> Result<(), Failure> {
-        answer_script(rt.alloc(), self.calls, text, &mut rt.stdout())
+        let mut out = io::BufWriter::new(rt.alloc(), rt.stdout())?;
+        let outcome = answer_script(rt.alloc(), self.calls, text, &mut out);
+        // what was answered comes before what is said of a line that ends the run
+        out.flush()?;
+        outcome
     }
 }
