@@ -1,12 +1,15 @@
 -- The walk through a sheet for the first conflict. Assumes nothing.
-use Rattle.std.proofs.Common.{◌≡◌, ℕ, zero, suc, ◌+◌, ◌-◌, ◌^◌, ◌<◌, ◌≤◌, Bool, true, false, not, ◌||◌, eqb, leb, List, [], ◌∷◌, ◌++◌, length, get_or, take, Some, None, sym, refl, ap, ◌∙◌, subst, ⊎_elim, arith}
+use Rattle.std.proofs.Common.{◌≡◌, ℕ, zero, suc, ◌+◌, ◌-◌, ◌^◌, ◌<◌, ◌≤◌, Bool, true, false, not, ◌||◌, eqb, leb, List, [], ◌∷◌, ◌++◌, length, get_or, take, Some, None, Ok, Err, Result, sym, refl, ap, ◌∙◌, subst, ⊎_elim, arith}
 use lib.Bits.{bit_or, or_zero_r}
 use Rattle.std.proofs.lemmas.List.{append_assoc, append-nil, get_or-map, length-map, take_more}
 use Rattle.std.proofs.lemmas.Bool.{le-leb, eqb-true, eq-eqb, or_cases, or_left, or_right, cond-true, false≢true}
 use Rattle.std.proofs.lemmas.Bool.Decides.{same_from_decides}
 use Rattle.parts.specs.declared.part.Part.{Part}
 use Rattle.models.specs.Conflicts.{is_symbol, is_the, met, clashes, clash_at, first_place, first_conflict_of}
-use Rattle.parts.specs.Parts.{form_of}
+use Rattle.parts.specs.declared.part.Form.{Form}
+use Rattle.parts.specs.declared.part.UnknownKind.{UnknownKind}
+use Rattle.parts.specs.Parts.{form_of, FormNamed}
+use Rattle.std.specs.Result.{result_ok}
 use Rattle.parts.specs.Sets.{In}
 use Rattle.models.specs.Sheets.{is_model, tree}
 use Rattle.models.specs.Told.{AllFormed}
@@ -16,6 +19,11 @@ use Rattle.models.specs.Walk.{Clash, own_bits}
 use Rattle.models.specs.Written.{subtrees, part_of, SheetOf}
 use Rattle.parts.proofs.SymbolSets.{in_left, in_right, in_either, in_one, in_none, power_bit}
 use Rattle.models.proofs.Written.{model_sheet}
+
+-- the form, where the kind names one
+pub named_form : (p : Part) (r : Result Form UnknownKind) → FormNamed p r → result_ok r ≡ form_of p
+named_form p (Ok form) h = h
+named_form p (Err unknown) h = h.0
 
 -- a count stands right after what it takes
 abbrev Counted : Bool → Tree → Type 0

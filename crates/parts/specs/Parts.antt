@@ -1,6 +1,7 @@
 -- What the fields of a part say. Assumes nothing.
-use Rattle.std.specs.Prelude.{ℕ, Bool, cond, ◌&&◌, ◌||◌, Some, None, Option, ◌==◌, nat_le}
+use Rattle.std.specs.Prelude.{◌≡◌, ℕ, Bool, cond, ◌&&◌, ◌||◌, Some, None, Ok, Err, Option, Result, ◌==◌, nat_le}
 use Rattle.parts.specs.declared.part.Part.{Part}
+use Rattle.parts.specs.declared.part.UnknownKind.{UnknownKind}
 use Rattle.parts.specs.declared.part.Form.{Form}
 use Rattle.parts.specs.declared.part.Form.TheVariants.{Empty, Symbol, Choice, Sequence, Interleave, Count, Nonempty}
 
@@ -14,6 +15,11 @@ form_of p =
     (cond (p.kind == 4) (Some Interleave)
     (cond (p.kind == 5) (Some (Count (record { low = p.low; high = p.high })))
     (cond (p.kind == 6) (Some Nonempty) None))))))
+
+-- the form that the kind names, or the kind where it names none
+abbrev pub FormNamed : Part → Result Form UnknownKind → Type 0
+FormNamed p (Ok form) = Some form ≡ form_of p
+FormNamed p (Err unknown) = (None ≡ form_of p) × (unknown.kind ≡ p.kind)
 
 -- low is 1 to 10,000, and high is low to 10,000, or 0
 abbrev pub bounded : ℕ → ℕ → Bool

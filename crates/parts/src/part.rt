@@ -1,7 +1,7 @@
 //! A part of a sheet as it comes from outside, and the form that its kind names.
 
 ghost use Rattle.std.specs.Prelude.{◌≡◌};
-ghost use Rattle.parts.specs.Parts.{form_of, bounded, are_fields_fit, takes as taken};
+ghost use Rattle.parts.specs.Parts.{FormNamed, bounded, are_fields_fit, takes as taken};
 
 /// The largest symbol.
 pub const LAST_SYMBOL: u32 = 63;
@@ -47,23 +47,33 @@ pub enum Form {
     Nonempty,
 }
 
-impl Part {
-    /// The form of a part whose kind is 0 to 6.
-    pub fn form(&self) -> Option<Form>
-        ensures { result ≡ form_of self.now }
-    {
-        match self.kind {
-            0 => Some(Form::Empty),
-            1 => Some(Form::Symbol(self.symbol)),
-            2 => Some(Form::Choice),
-            3 => Some(Form::Sequence),
-            4 => Some(Form::Interleave),
-            5 => Some(Form::Count(self.repeats())),
-            6 => Some(Form::Nonempty),
-            _ => None,
+/// A kind that is not 0 to 6.
+#[derive(Clone, Copy)]
+pub struct UnknownKind {
+    pub kind: u32,
+}
+
+/// The form that the kind of a part names.
+impl TryFrom<Part> for Form {
+    type Error = UnknownKind;
+
+    ghost try_from_gives = { FormNamed };
+
+    fn try_from(part: Part) -> Result<Form, UnknownKind> {
+        match part.kind {
+            0 => Ok(Form::Empty),
+            1 => Ok(Form::Symbol(part.symbol)),
+            2 => Ok(Form::Choice),
+            3 => Ok(Form::Sequence),
+            4 => Ok(Form::Interleave),
+            5 => Ok(Form::Count(part.repeats())),
+            6 => Ok(Form::Nonempty),
+            kind => Err(UnknownKind { kind }),
         }
     }
+}
 
+impl Part {
     /// Whether the fields that the kind uses are in range, and the others 0.
     pub fn fields_fit(&self) -> bool
         ensures { result ≡ are_fields_fit self.now }

@@ -34,7 +34,7 @@ fn check_part(place: usize, part: Part, waiting: &mut Stack<'_, bool>) -> Result
     ensures kept { room waiting.new ≡ room waiting.old }
     ensures admitted { (ts : List Tree) → Told flags ts waiting.old.waiting → AllFormed ts → Admitted place (step part ts) result waiting.new.waiting }
 {
-    let Some(form) = part.form() else {
+    let Ok(form) = Form::try_from(part) else {
         return Err(PartFault::UnknownKind { place });
     };
     if !part.fields_fit() {

@@ -42,7 +42,7 @@ pub fn first_conflict(model: &Model<'_>) -> Option<usize>
     // what a count takes stands right before it
     let mut after_symbol = false;
     for (place, part) in model.parts().iter().enumerate() {
-        let form = part.form();
+        let form = Form::try_from(*part).ok();
         if clashes(form, seen, after_symbol) {
             return Some(place);
         }

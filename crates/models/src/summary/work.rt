@@ -51,7 +51,7 @@ pub fn work_up<S: Summary>(
 {
     let mut stack = Stack::new(work);
     for part in model.parts() {
-        let Some(form) = part.form() else {
+        let Ok(form) = Form::try_from(*part) else {
             unreachable()
         };
         apply(summary, form, &mut stack);

@@ -8,7 +8,7 @@ returns c = record {
   grows = search rules;
   kept = search rules;
   admitted = λ ts tell formed.
-      admit_ok c.args.part c.in-Some.form c.args.place ts _ _ (sym c.in-Some.ensures) tell
-      (sym c.if-not-fields_fit.ensures) (omega arith) (sym (c.if-not-symbol_taken.ensures ∙ ap (flag_taken c.in-Some.form) c.last.ensures)) formed
+      admit_ok c.args.part c.in-Ok.form c.args.place ts _ _ (sym c.in-Ok.ensures) tell
+      (sym c.if-not-fields_fit.ensures) (omega arith) (sym (c.if-not-symbol_taken.ensures ∙ ap (flag_taken c.in-Ok.form) c.last.ensures)) formed
       (λ us e f. c.apply.ensures.told ts us tell e f);
 }

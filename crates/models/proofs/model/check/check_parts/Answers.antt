@@ -18,16 +18,3 @@ loop-place-preserved c =
     let a = c.loop-place.invariant.2 in
     let (us, made, tell, formed) = admitted_trees _ _ _ (c.in_ok-check_part.ensures.admitted a.trees a.tell a.formed) in
     (omega arith, omega arith, along_more _ _ _ _ a _ _ us c.loop-place-test.true made tell formed)
-
-pub returns-then-len-eq1 : goal.returns-then-len-eq1
-returns-then-len-eq1 c =
-    let a = c.loop-place.invariant.2 in
-    let long = told_length flags a.trees _ a.tell in
-    rw (← along_all _ _ _ _ a c.loop-place-test.false) (only_one _ a.trees (omega arith))
-
-pub returns-else-len-eq1 : goal.returns-else-len-eq1
-returns-else-len-eq1 c =
-    let a = c.loop-place.invariant.2 in
-    let long = told_length flags a.trees _ a.tell in
-    let end : c.loop-place.place ≡ length c.args.parts.now = omega arith in
-    rw (← along_all _ _ _ _ a c.loop-place-test.false, ← end) (only_other _ a.trees (λ e. c.if-len-eq1.false (omega arith)))
