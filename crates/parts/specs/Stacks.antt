@@ -1,5 +1,5 @@
 -- What a stack over a lent slice holds. Assumes nothing.
-use Rattle.std.specs.Prelude.{◌≡◌, ℕ, ◌+◌, ◌<◌, List, [], ◌∷◌, reverse, length, take, Some, None, Ok, Err, Option, Result, slice_set}
+use Rattle.std.specs.Prelude.{◌≡◌, ℕ, ◌<◌, List, [], ◌∷◌, reverse, length, take, Some, None, Ok, Err, Option, Result, slice_set}
 
 -- the first n of xs, the last first
 abbrev pub front : {X : Type 0} → List X → ℕ → List X

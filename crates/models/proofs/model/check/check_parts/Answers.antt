@@ -1,8 +1,7 @@
-use Rattle.std.proofs.Common.{◌≡◌, length, sym, ◌∙◌, arith}
+use Rattle.std.proofs.Common.{sym, ◌∙◌, arith}
 use Rattle.std.proofs.lemmas.Result.{err_from_is_err_and}
-use Rattle.models.specs.Checking.{flags}
-use Rattle.models.proofs.Along.{along_more, along_next, along_all}
-use Rattle.models.proofs.Admits.{admitted_trees, admitted_fault, told_length, only_one, only_other}
+use Rattle.models.proofs.Along.{along_more, along_next}
+use Rattle.models.proofs.Admits.{admitted_trees, admitted_fault}
 use Rattle.models.proofs.model.check.check_parts.Goals as goal
 
 pub returns-in_err-check_part : goal.returns-in_err-check_part

@@ -1,6 +1,5 @@
-use Rattle.std.proofs.Common.{◌≤◌, length, arith, rules}
-use Rattle.models.proofs.Along.{along_none, checked_form, checked_more, checked_some, checked_value}
-use Rattle.models.proofs.Admits.{model_reads}
+use Rattle.std.proofs.Common.{arith}
+use Rattle.models.proofs.Along.{checked_more}
 use Rattle.models.proofs.summary.work.work_up.Goals as goal
 
 pub loop-part-preserved : goal.loop-part-preserved
