@@ -51,12 +51,14 @@ NoQuestion bs e =
 abbrev pub NoColon : List ℕ → LineError → Type 0
 NoColon bs e = (w : Option (Bor (List ℕ))) × (e ≡ NotColon w) × Comes bs [] w × IfSome w (λ v. v.now ≢ codes ":")
 
+-- what comes of bs where a set has to stand, and where a symbol has
 abbrev pub SetNext : List ℕ → Result SymbolSet LineError → List ℕ → Type 0
 SetNext = ReadNext (λ w o. set_read w.now ≡ o) (λ w e. e ≡ NotSet w)
 
 abbrev pub SymbolNext : List ℕ → Result ℕ LineError → List ℕ → Type 0
 SymbolNext = ReadNext (λ w o. number_read w.now ≡ o) (λ w e. e ≡ NotSymbol w)
 
+-- what comes of bs where a question has to stand
 abbrev pub QuestionNext : List ℕ → Result Question LineError → List ℕ → Type 0
 QuestionNext bs (Ok q) rest = Asked bs q rest
 QuestionNext bs (Err e) rest = NoQuestion bs e

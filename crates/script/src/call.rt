@@ -10,8 +10,8 @@ use crate::reader::Reader;
 use parts::part::Part;
 use std::alloc::Global;
 
-/// A call of a script. A call more is a variant here, an arm in `named` with the function that reads
-/// its words, and an arm in the program with the function that answers it.
+/// A call of a script. A call more is a variant here, a name in `Calls`, an arm in `named` with the
+/// function that reads its words, and an arm in the program with the function that answers it.
 #[derive(Drop)]
 pub enum Call {
     /// Check parts as a model.
@@ -63,7 +63,7 @@ impl Call {
 }
 
 /// The words after `ask` are a question, a colon and the parts.
-fn question_and_parts(mut reader: Reader) -> Result<(Question, Vec<Part>), LineError>
+fn question_and_parts(mut reader: Reader<'_>) -> Result<(Question, Vec<Part>), LineError<'_>>
     ensures { MatchResult result (λ r. AllAsk (left reader.entry) r.0 r.1.items) (NotAsk (left reader.entry)) }
 {
     let question = reader.next_question()?;

@@ -18,6 +18,7 @@ pub(crate) struct Reader<'a> {
 }
 
 impl<'a> Reader<'a> {
+    /// At the front of a line.
     pub(crate) fn new(heap: Global, line: &'a str) -> Reader<'a>
         ensures { left result ≡ line.now }
     {
@@ -25,6 +26,7 @@ impl<'a> Reader<'a> {
         Reader { heap, words }
     }
 
+    /// The next word, if the line has one more.
     pub(crate) fn next_word(&mut self) -> Option<&'a str>
         ensures { Next (left self.old) result (left self.new) }
     {
@@ -41,6 +43,7 @@ impl<'a> Reader<'a> {
         ensures { ReadNext (R.post read) (W.post wrong) (left self.old) result (left self.new) }
     {
         let word = self.next_word();
+        // no `ok_or_else`: it gets no proof yet with a closure that gives a borrow
         word.and_then(read).ok_or(wrong(word))
     }
 
