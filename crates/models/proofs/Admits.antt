@@ -9,12 +9,11 @@ use Rattle.parts.specs.Parts.{form_of, are_fields_fit, takes}
 use Rattle.models.specs.Trees.{Tree, Bounds}
 use Rattle.models.specs.Trees.Tree.{empty}
 use Rattle.parts.specs.declared.refusal.PartFault.{PartFault}
-use Rattle.parts.specs.declared.refusal.PartFault.TheVariants.{NotOneWaiting}
 use Rattle.parts.specs.Refusals.{Notice, part_notice, at_set}
 use Rattle.models.specs.Sheets.{shape, join, symbol_taken, joined, step_by, step, go_on, only, reading, is_model, tree_or, tree}
 use Rattle.parts.specs.Stacks.{first_of}
 use Rattle.models.specs.Told.{Told, AllFormed}
-use Rattle.models.specs.Checking.{flags, flag_taken, Admitted, Answers}
+use Rattle.models.specs.Checking.{flags, flag_taken, Admitted}
 use Rattle.models.proofs.Unlike.{err-ok}
 
 -- what fitting fields say of a form's values
@@ -115,17 +114,6 @@ pub admitted_fault : (n : ℕ) (o : Result (List Tree) ℕ) (fault : PartFault) 
     → Admitted n o (Err fault) ws → go_on n o rest ≡ Err (part_notice fault)
 admitted_fault n (Ok us) fault ws rest h = absurd h
 admitted_fault n (Err question) fault ws rest h = ap Err (sym h)
-
--- at the end one tree waits, or not
-pub only_one : (n : ℕ) (ts : List Tree) → length ts ≡ 1 → Answers (only n ts) (Ok tt)
-only_one n [] e = absurd (omega arith)
-only_one n (t ∷ []) e = tt
-only_one n (t ∷ u ∷ ts) e = absurd (omega arith)
-
-pub only_other : (n : ℕ) (ts : List Tree) → (length ts ≡ 1 → ⊥) → Answers (only n ts) (Err (NotOneWaiting n))
-only_other n [] ne = refl
-only_other n (t ∷ []) ne = absurd (ne refl)
-only_other n (t ∷ u ∷ ts) ne = refl
 
 -- what a part that fails no question makes
 joined_made : (o : Option (List Tree)) (holds : Bool) (us : List Tree) → joined o holds ≡ Ok us → (o ≡ Some us) × (holds ≡ true)

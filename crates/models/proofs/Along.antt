@@ -1,14 +1,13 @@
 -- On the way through a sheet: values that tell of the trees that wait. Assumes nothing.
-use Rattle.std.proofs.Common.{◌≡◌, ℕ, ◌+◌, ◌<◌, ◌≤◌, true, List, [], ◌∷◌, length, get_or, drop, Some, None, Ok, sym, refl, ◌∙◌}
-use Rattle.std.proofs.lemmas.List.{at_drop_more, at_drop_all}
+use Rattle.std.proofs.Common.{◌≡◌, ℕ, ◌+◌, ◌<◌, true, List, [], length, get_or, drop, Some, Ok, sym, ◌∙◌}
+use Rattle.std.proofs.lemmas.List.{at_drop_more}
 use Rattle.parts.specs.declared.part.Form.{Form}
 use Rattle.parts.specs.declared.part.Part.{Part}
 use Rattle.parts.specs.Parts.{form_of}
-use Rattle.models.specs.Sheets.{shape, join, step, go_on, only, reading, is_model, tree}
+use Rattle.models.specs.Sheets.{shape, join, step, go_on, reading, is_model, tree}
 use Rattle.models.specs.Told.{Told, AllFormed}
 use Rattle.models.specs.Trees.{Tree}
-use Rattle.models.proofs.Admits.{went_on, step_made, only_made, model_reads}
-use Rattle.models.proofs.Unlike.{some-none}
+use Rattle.models.proofs.Admits.{went_on, step_made, model_reads}
 
 -- after i parts, the values vs tell of well-formed trees that make with the rest what all make
 pub record Along {V : Type 0} (M : Tree → V → Type 0) (ps : List Part) (i : ℕ) (vs : List V) : Type 0 where
@@ -18,9 +17,6 @@ pub record Along {V : Type 0} (M : Tree → V → Type 0) (ps : List Part) (i : 
   pub formed : AllFormed trees
 
 module _ {V : Type 0} (M : Tree → V → Type 0) (ps : List Part) where
-  pub along_none : Along M ps 0 []
-  along_none = record { trees = []; same = refl; tell = tt; formed = tt }
-
   module _ (i : ℕ) (vs : List V) (a : Along M ps i vs) where
     -- what the next part makes
     pub along_next : (d : Part) → i < length ps → go_on i (step (get_or ps i d) a.trees) (reading (i + 1) (drop (i + 1) ps)) ≡ reading 0 ps []
@@ -34,9 +30,6 @@ module _ {V : Type 0} (M : Tree → V → Type 0) (ps : List Part) where
       formed = formed;
     }
 
-    pub along_all : length ps ≤ i → only i a.trees ≡ reading 0 ps []
-    along_all end = sym (at_drop_all (λ qs. reading i qs a.trees) ps i end) ∙ a.same
-
 -- the same for the parts of a model, where no part fails
 module _ {V : Type 0} (M : Tree → V → Type 0) (ps : List Part) (checked : is_model ps ≡ true) (i : ℕ) (vs : List V) (a : Along M ps i vs) where
   checked_next : (d : Part) → i < length ps
@@ -46,23 +39,9 @@ module _ {V : Type 0} (M : Tree → V → Type 0) (ps : List Part) (checked : is
       let (f, named, made, formed) = step_made (get_or ps i d) a.trees us stepped a.formed in
       (f, us, named, stepped, made, formed)
 
-  pub checked_form : (d : Part) → i < length ps → None ≡ form_of (get_or ps i d) → ⊥
-  checked_form d within e =
-      let (f, us, named, stepped, made, formed) = checked_next d within in
-      some-none f (sym (e ∙ named))
-
   pub checked_more : (d : Part) (f : Form) (ws : List V) → i < length ps → Some f ≡ form_of (get_or ps i d)
       → ((ts us : List Tree) → Told M ts vs → join (shape f) ts ≡ Some us → AllFormed us → Told M us ws) → Along M ps (i + 1) ws
   checked_more d f ws within e k =
       let (g, us, named, stepped, made, formed) = checked_next d within in
       let same : g ≡ f = cc in
       along_more M ps i vs a d ws us within stepped (k a.trees us a.tell (rw same at made) formed) formed
-
-  checked_all : length ps ≤ i → a.trees ≡ tree ps ∷ []
-  checked_all end = only_made i a.trees (tree ps) (along_all M ps i vs a end ∙ (model_reads ps checked).1)
-
-  pub checked_some : length ps ≤ i → vs ≡ [] → ⊥
-  checked_some end e = let t : Told M (tree ps ∷ []) [] = rw (checked_all end, e) at a.tell in t
-
-  pub checked_value : (v : V) (ws : List V) → length ps ≤ i → vs ≡ v ∷ ws → M (tree ps) v
-  checked_value v ws end e = let t : Told M (tree ps ∷ []) (v ∷ ws) = rw (checked_all end, e) at a.tell in t.0

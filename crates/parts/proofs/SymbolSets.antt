@@ -1,9 +1,9 @@
 -- Which symbols stand in a set, a union and a set of one. Assumes nothing.
-use Rattle.std.proofs.Common.{◌≡◌, ℕ, suc, ◌+◌, ◌-◌, ◌*◌, ◌/◌, ◌%◌, ◌^◌, ◌≤◌, max, eqb, leb, ◌⊎◌, Decides, sym, ap, ◌∙◌, subst, inl, inr, arith}
+use Rattle.std.proofs.Common.{◌≡◌, ℕ, suc, ◌+◌, ◌-◌, ◌*◌, ◌/◌, ◌%◌, ◌^◌, ◌≤◌, max, leb, ◌⊎◌, sym, ap, ◌∙◌, subst, inl, inr, arith}
 use native.Mathlib.Nat.{two-pow-succ, div-eq_of_lt, zero-div}
-use lib.Bits.{bit_and, bit_or, or_shr, or_step}
-use Rattle.std.proofs.lemmas.Nat.{pow-add, pow_below, shl-shr, and_mask}
-use Rattle.std.proofs.lemmas.Bool.{cases_eq, cases_Bool, cases_order, cond-true, cond-false, eqb-true, eq-eqb, le-leb}
+use lib.Bits.{bit_or, or_shr, or_step}
+use Rattle.std.proofs.lemmas.Nat.{pow-add, pow_below, shl-shr}
+use Rattle.std.proofs.lemmas.Bool.{cases_eq, cases_Bool, cases_order, cond-true, cond-false, le-leb}
 use Rattle.parts.specs.Sets.{In, only}
 
 -- a bit of a union
@@ -63,11 +63,3 @@ in_only x s h =
 
 pub only_in : (s : ℕ) → s ≤ 63 → In (only s) s
 only_in s low = subst (λ n. In n s) (sym (cond-true _ (2 ^ s) 0 (le-leb s 63 low))) (in_one s low)
-
--- the test of one bit
-pub bit_test : (set s : ℕ) → s ≤ 63 → Decides (eqb (bit_and (set / 2 ^ s) 1) 1) (In set s)
-bit_test set s low =
-    let mask = and_mask (set / 2 ^ s) 1 in (
-      (λ t. let e = eqb-true (bit_and (set / 2 ^ s) 1) 1 t in (low, omega arith)),
-      (λ h. eq-eqb (bit_and (set / 2 ^ s) 1) 1 (let bit = h.1 in omega arith)),
-    )
