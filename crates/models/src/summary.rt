@@ -9,7 +9,9 @@ pub mod work;
 use parts::part::Repeats;
 
 /// Whoever implements it says by `means` what a value tells about a tree's
-/// messages, and owes for each kind that true values taken give a true value.
+/// messages, and owes for each kind that true values taken give a true value. Two
+/// kinds may get one value in one way and still have a method each: no plainer form
+/// joins them, since each kind has its own law.
 /// The tree made is known to be well formed, so each tree taken has some
 /// message, and the one that `nonempty` takes a nonempty one.
 pub trait Summary {

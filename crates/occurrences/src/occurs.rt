@@ -188,6 +188,7 @@ pub fn occurrences_of(model: &Model<'_>, symbol: u32) -> Occurring
         most: Most::NoEnd,
         every: (false, false),
     };
+    // made here for this summary by a rule of the project
     let mut work = [none; MOST_PARTS];
     work_up(&Occurs { symbol }, model, &mut work)
 }

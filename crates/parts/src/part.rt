@@ -13,7 +13,8 @@ pub const MOST_REPEATS: u32 = 10_000;
 pub const MOST_PARTS: usize = 256;
 
 /// One row of a sheet. Each field takes any number, so that a bad table can be
-/// written down and refused. docs/MODELS.md says what each kind means.
+/// written down and refused: the kind is a number and no enum by a rule of the
+/// project. docs/MODELS.md says what each kind means.
 #[derive(Clone, Copy)]
 pub struct Part {
     /// 0 empty, 1 symbol, 2 choice, 3 sequence, 4 interleave, 5 count, 6 nonempty

@@ -47,7 +47,8 @@ impl From<PartFault> for Refusal {
 }
 
 impl Refusal {
-    /// The number of the question that got a no.
+    /// The number of the question that got a no. A rule of the project: those who
+    /// read refusals know them by their numbers.
     pub fn number(&self) -> u32
         ensures { result ≡ (notice self.now).number }
     {

@@ -7,7 +7,8 @@ use std::marker::Model;
 
 pub mod calls;
 
-/// The first `len` places of the slice hold what waits, the last pushed last.
+/// The first `len` places of the slice hold what waits, the last pushed last. A
+/// lent slice and no `Vec` by a rule of the project: nothing is allocated.
 #[derive(Drop)]
 pub struct Stack<'a, E> {
     items: &'a mut [E],

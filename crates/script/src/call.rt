@@ -48,6 +48,7 @@ impl Call {
     fn named<'a>(calls: Calls, name: &'a str, reader: Reader<'a>) -> Result<Call, LineError<'a>>
         ensures { CallRead calls name.now (left reader.entry) result }
     {
+        // a match and no table, which is no plainer: each call reads other words
         match name {
             "check" => {
                 let parts = reader.parts()?;

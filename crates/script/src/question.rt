@@ -40,6 +40,7 @@ impl<'a> Reader<'a> {
         ensures { QuestionNext (left self.old) result (left self.new) }
     {
         let name = self.next_word();
+        // a match and no table, which is no plainer: each question reads other words
         match name {
             Some("every") => {
                 let set = self.next_set()?;

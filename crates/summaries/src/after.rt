@@ -102,6 +102,7 @@ fn either(left: Order, right: Order) -> Order
 pub fn order_of(model: &Model<'_>, first: u32, second: u32) -> Order
     ensures { OrderIs first second (tree_of model.now) result }
 {
+    // made here for this summary by a rule of the project
     let mut work = [Order::NONE; MOST_PARTS];
     work_up(&After { first, second }, model, &mut work)
 }

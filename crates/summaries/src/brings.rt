@@ -101,6 +101,7 @@ pub fn brings_of(model: &Model<'_>, first: SymbolSet, second: SymbolSet) -> Brou
         every: (false, false),
     };
     let second = Every { set: second };
+    // made here for this summary by a rule of the project
     let mut work = [none; MOST_PARTS];
     work_up(&Brings { first, second }, model, &mut work)
 }

@@ -54,6 +54,7 @@ pub fn empty_fits(model: &Model<'_>) -> bool
     ensures exact { Decides result (Fits (tree_of model.now) []) }
     ensures counts { EmptyCount }
 {
+    // made here for this summary by a rule of the project
     let mut work = [false; MOST_PARTS];
     work_up(&EmptyFits, model, &mut work)
 }

@@ -17,6 +17,7 @@ pub struct Every {
 }
 
 impl Summary for Every {
+    // a pair and no struct by a rule of the project
     type Value = (bool, bool);
 
     ghost means = { λ self t v. EveryHas self.set.bits t v };
@@ -70,6 +71,7 @@ fn side_by_side(left: (bool, bool), right: (bool, bool)) -> (bool, bool)
 pub fn every_of(model: &Model<'_>, set: SymbolSet) -> (bool, bool)
     ensures { EveryHas set.bits (tree_of model.now) result }
 {
+    // made here for this summary by a rule of the project
     let mut work = [(false, false); MOST_PARTS];
     work_up(&Every { set }, model, &mut work)
 }

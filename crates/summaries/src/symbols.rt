@@ -53,6 +53,7 @@ pub fn symbols_of(model: &Model<'_>) -> SymbolSet
     ensures exact { SymbolsAre (tree_of model.now) result.bits }
     ensures standing { StandingAre (tree_of model.now) result.bits }
 {
+    // made here for this summary by a rule of the project
     let mut work = [SymbolSet::EMPTY; MOST_PARTS];
     work_up(&Symbols, model, &mut work)
 }

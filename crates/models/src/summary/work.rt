@@ -41,7 +41,8 @@ pub(crate) fn apply<S: Summary>(summary: &S, form: Form, stack: &mut Stack<'_, S
 }
 
 /// What a summary tells of a model. The working array is scratch: it comes
-/// back with whatever was left in it.
+/// back with whatever was left in it. By a rule of the project it is made by
+/// repetition where each summary is asked, and not here.
 pub fn work_up<S: Summary>(
     summary: &S,
     model: &Model<'_>,
