@@ -31,17 +31,18 @@ impl Program {
     }
 
     fn answer_input(&self, rt: &HostRuntime) -> Result<(), Failure> {
-        match io::read_to_string(rt.alloc(), rt.stdin()) {
-            Ok(text) => self.answer(rt, text.as_str()),
-            Err(error) => Err(Failure::BadInput { error }),
-        }
+        let text = io::read_to_string(rt.alloc(), rt.stdin()).map_err(|error| Failure::BadInput {
+            error,
+        })?;
+        self.answer(rt, text.as_str())
     }
 
     fn answer_file(&self, rt: &HostRuntime, path: String) -> Result<(), Failure> {
-        match fs::read_to_string(rt, path.as_str()) {
-            Ok(text) => self.answer(rt, text.as_str()),
-            Err(error) => Err(Failure::BadFile { path, error }),
-        }
+        let text = fs::read_to_string(rt, path.as_str()).map_err(|error| Failure::BadFile {
+            path,
+            error,
+        })?;
+        self.answer(rt, text.as_str())
     }
 
     fn answer(&self, rt: &HostRuntime, text: &str) -> Result<(), Failure> {

@@ -1,4 +1,4 @@
-use Rattle.std.proofs.Common.{subst, ap, ◌∙◌, sym, Ok, Some, ◌∷◌, []}
+use Rattle.std.proofs.Common.{subst, Ok}
 use Rattle.answers.specs.Answers.{CallAnswered}
 use Rattle.script.specs.Lines.{LineRead}
 use Rattle.runner.proofs.Sofar.{line_none, line_said}

@@ -1,4 +1,4 @@
-use Rattle.std.proofs.Common.{rules, ◌≡◌, ◌+◌, length, get_or, take, sym, subst, arith}
+use Rattle.std.proofs.Common.{rules, length, take, sym, subst, arith}
 use Rattle.std.proofs.lemmas.List.{length_push, take_all}
 use Rattle.std.proofs.lemmas.List.FromFn.{length-enumerate_from}
 use Rattle.runner.specs.Scripts.{Answered}
