@@ -34,9 +34,9 @@ pub record Spaced (line rest : List ℕ) (old new : Option (List ℕ)) (gap : Li
   pub between : gap ≡ gap_after (codes " ") seen
   pub written : Appends old new (spaced seen)
 
-module _ (line rest : List ℕ) (old new : Option (List ℕ)) (gap : List ℕ) (s : Spaced line rest old new gap) where
-  pub spaced_more : (w more : List ℕ) (last : Option (List ℕ)) → First rest w more → Appends new last (gap ++ w) → Spaced line more old last (codes " ")
-  spaced_more w more last first next = record {
+module _ {line rest : List ℕ} {old new : Option (List ℕ)} {gap : List ℕ} (s : Spaced line rest old new gap) where
+  pub spaced_more : {w more : List ℕ} {last : Option (List ℕ)} → First rest w more → Appends new last (gap ++ w) → Spaced line more old last (codes " ")
+  spaced_more {w} {more} {last} first next = record {
     seen = s.seen ++ (w ∷ []);
     begins = begins_more line s.seen w rest more s.begins first;
     between = gap_more (codes " ") s.seen w;

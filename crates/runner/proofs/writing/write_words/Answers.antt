@@ -6,4 +6,9 @@ use Rattle.runner.proofs.writing.write_words.Goals as goal
 pub loop-word-preserved : goal.loop-word-preserved
 loop-word-preserved g c =
     let first = first_of _ c.in-Some.word.now _ c.in-Some.ensures.steps in
-    (tt, tt, search rules, spaced_more _ _ _ _ _ c.loop-word.invariant.3 _ _ _ first c.in_ok-write.ensures.bytes)
+    record {
+      next = tt;
+      finite = tt;
+      text = search rules;
+      spaced = spaced_more c.loop-word.invariant.spaced first c.in_ok-write.ensures.bytes;
+    }
