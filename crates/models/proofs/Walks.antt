@@ -15,7 +15,7 @@ use Rattle.models.specs.Sheets.{is_model, tree}
 use Rattle.models.specs.Told.{AllFormed}
 use Rattle.models.specs.Trees.{Tree, Formed}
 use Rattle.models.specs.Trees.Tree.{empty, symbol, choice, sequence, interleave, count, nonempty}
-use Rattle.models.specs.Walk.{Clash, own_bits}
+use Rattle.models.specs.Walk.{Clash, is_symbol_form, own_bits}
 use Rattle.models.specs.Written.{subtrees, part_of, SheetOf}
 use Rattle.parts.proofs.SymbolSets.{in_left, in_right, in_either, in_one, in_none, power_bit}
 use Rattle.models.proofs.Written.{model_sheet}
@@ -143,8 +143,8 @@ clash_is set after r ts (interleave a b) f c g h = h
 clash_is set after r ts (count t low high) f c g h = h ∙ ap not c
 clash_is set after r ts (nonempty t) f c g h = h
 
--- the test of a kind for a symbol part
-symbol_kind : (u : Tree) → eqb (part_of u).kind 1 ≡ is_symbol u
+-- the test of a form for a symbol part
+symbol_kind : (u : Tree) → is_symbol_form (form_of (part_of u)) ≡ is_symbol u
 symbol_kind empty = refl
 symbol_kind (symbol s) = refl
 symbol_kind (choice l r) = refl
@@ -200,7 +200,7 @@ module _ (ps : List Part) (checked : is_model ps ≡ true) where
     pub walked_found : r ≡ true → Some i ≡ first_conflict_of (tree ps)
     walked_found e = sym (first_here (length ps) i (clash_at trees) within (sym clash_here ∙ e)) ∙ w.rest
 
-    pub walked_more : r ≡ false → Walked ps (i + 1) (bit_or set (own_bits (form_of (get_or ps i d)))) (eqb (get_or ps i d).kind 1)
+    pub walked_more : r ≡ false → Walked ps (i + 1) (bit_or set (own_bits (form_of (get_or ps i d)))) (is_symbol_form (form_of (get_or ps i d)))
     walked_more e = record {
       rest = sym (first_more (length ps) i (clash_at trees) within (sym clash_here ∙ e)) ∙ w.rest;
       seen =

@@ -1,5 +1,5 @@
 -- What the walk for the first conflict asks of one part. Assumes nothing.
-use Rattle.std.specs.Prelude.{◌≡◌, ℕ, ◌^◌, Bool, false, cond, not, Some, None, Decides, Option, nat_le}
+use Rattle.std.specs.Prelude.{◌≡◌, ℕ, ◌^◌, Bool, true, false, cond, not, Some, None, Decides, Option, nat_le}
 use Rattle.parts.specs.declared.part.Form.{Form}
 use Rattle.parts.specs.declared.part.Form.TheVariants.{Empty, Symbol, Choice, Sequence, Interleave, Count, Nonempty}
 use Rattle.parts.specs.Sets.{In}
@@ -25,3 +25,14 @@ own_bits (Some Sequence) = 0
 own_bits (Some Interleave) = 0
 own_bits (Some (Count repeats)) = 0
 own_bits (Some Nonempty) = 0
+
+-- the form of a symbol part
+abbrev pub is_symbol_form : Option Form → Bool
+is_symbol_form None = false
+is_symbol_form (Some Empty) = false
+is_symbol_form (Some (Symbol s)) = true
+is_symbol_form (Some Choice) = false
+is_symbol_form (Some Sequence) = false
+is_symbol_form (Some Interleave) = false
+is_symbol_form (Some (Count repeats)) = false
+is_symbol_form (Some Nonempty) = false

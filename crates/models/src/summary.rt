@@ -9,11 +9,11 @@ pub mod work;
 use parts::part::Repeats;
 
 /// Whoever implements it says by `means` what a value tells about a tree's
-/// messages, and owes for each kind that true values taken give a true value. Two
-/// kinds may get one value in one way and still have a method each: no plainer form
-/// joins them, since each kind has its own law.
+/// messages, and owes for each kind that true values taken give a true value.
 /// The tree made is known to be well formed, so each tree taken has some
 /// message, and the one that `nonempty` takes a nonempty one.
+// Where two kinds get their values in one way, they still have a method each: no plainer
+// form joins them, since each kind has a law of its own.
 pub trait Summary {
     type Value: Copy;
 

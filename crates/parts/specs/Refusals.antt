@@ -1,4 +1,4 @@
--- What a refusal tells: the number of the question that got a no, its layer and a place. Assumes nothing.
+-- What a refusal tells: the number of the question that got a no, its layer and a place; and how it is printed. Assumes nothing.
 use Rattle.std.specs.Prelude.{ℕ, List, ◌++◌, codes, decimal}
 use Rattle.parts.specs.declared.refusal.Layer.{Layer}
 use Rattle.parts.specs.declared.refusal.Layer.TheVariants as layer

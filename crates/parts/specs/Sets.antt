@@ -1,4 +1,4 @@
--- Sets of symbols as 64-bit numbers. Assumes nothing.
+-- Sets of symbols as 64-bit numbers, and how they are printed. Assumes nothing.
 use Rattle.std.specs.Prelude.{◌≡◌, ℕ, zero, suc, ◌/◌, ◌%◌, ◌^◌, ◌≤◌, cond, List, [], ◌∷◌, ◌++◌, codes, decimal, ◌==◌, nat_le}
 use Rattle.std.specs.List.{join_by}
 

@@ -13,8 +13,8 @@ pub const MOST_REPEATS: u32 = 10_000;
 pub const MOST_PARTS: usize = 256;
 
 /// One row of a sheet. Each field takes any number, so that a bad table can be
-/// written down and refused: the kind is a number and no enum by a rule of the
-/// project. docs/MODELS.md says what each kind means.
+/// written down and refused; so the kind is a number and no enum (docs/DECISIONS.md,
+/// "Fields of a part are `u32`"). docs/MODELS.md says what each kind means.
 #[derive(Clone, Copy)]
 pub struct Part {
     /// 0 empty, 1 symbol, 2 choice, 3 sequence, 4 interleave, 5 count, 6 nonempty
@@ -67,7 +67,10 @@ impl TryFrom<Part> for Form {
             2 => Ok(Form::Choice),
             3 => Ok(Form::Sequence),
             4 => Ok(Form::Interleave),
-            5 => Ok(Form::Count(part.repeats())),
+            5 => Ok(Form::Count(Repeats {
+                low: part.low,
+                high: part.high,
+            })),
             6 => Ok(Form::Nonempty),
             kind => Err(UnknownKind { kind }),
         }
@@ -80,20 +83,10 @@ impl Part {
         ensures { result ≡ are_fields_fit self.now }
     {
         let uncounted = self.low == 0 && self.high == 0;
-        match self.kind {
-            1 => self.symbol <= LAST_SYMBOL && uncounted,
-            5 => self.symbol == 0 && self.repeats().in_range(),
+        match Form::try_from(*self) {
+            Ok(Form::Symbol(symbol)) => symbol <= LAST_SYMBOL && uncounted,
+            Ok(Form::Count(repeats)) => self.symbol == 0 && repeats.in_range(),
             _ => self.symbol == 0 && uncounted,
-        }
-    }
-
-    // What the fields of a count say.
-    fn repeats(&self) -> Repeats
-        ensures { result ≡ record { low = self.now.low; high = self.now.high } }
-    {
-        Repeats {
-            low: self.low,
-            high: self.high,
         }
     }
 }

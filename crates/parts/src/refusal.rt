@@ -1,4 +1,4 @@
-//! Why a call is refused: its number, its layer and a place.
+//! Why a call is refused: its number, its layer and a place, and how that is printed.
 
 ghost use Rattle.std.specs.Prelude.{◌≡◌, Some};
 ghost use Rattle.parts.specs.Refusals.{notice, part_notice, layer_name_of, refusal_said};
@@ -47,8 +47,8 @@ impl From<PartFault> for Refusal {
 }
 
 impl Refusal {
-    /// The number of the question that got a no. A rule of the project: those who
-    /// read refusals know them by their numbers.
+    /// The number of the question that got a no. A number and no enum, since those who
+    /// read refusals know the questions by their numbers (docs/CALLS.md).
     pub fn number(&self) -> u32
         ensures { result ≡ (notice self.now).number }
     {

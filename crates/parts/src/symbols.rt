@@ -1,4 +1,4 @@
-//! Sets of symbols.
+//! Sets of symbols, and how they are printed.
 
 ghost use Rattle.std.specs.Prelude.{◌≡◌, ◌^◌, if◌then◌else◌, Some, Decides, bit_or, nat_le};
 ghost use Rattle.parts.specs.Sets.{In, listed};

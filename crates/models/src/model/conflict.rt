@@ -3,14 +3,15 @@
 ghost use Rattle.std.specs.Prelude.{◌≡◌};
 ghost use Rattle.models.specs.Checked.{tree_of};
 ghost use Rattle.models.specs.Conflicts.{first_conflict_of, FirstExactly, NoneExactly};
-ghost use Rattle.models.specs.Walk.{Clash, own_bits};
+ghost use Rattle.models.specs.Walk.{Clash, is_symbol_form, own_bits};
 
 use crate::model::Model;
 use parts::part::Form;
 use parts::symbols::SymbolSet;
 
 // Whether the part is a symbol already seen, or a count that stands after
-// something else than a symbol part.
+// something else than a symbol part. An unknown kind, which no model has, clashes
+// with nothing, so that nothing has to be shown of it.
 fn clashes(form: Option<Form>, seen: SymbolSet, after_symbol: bool) -> bool
     ensures { Clash form seen.bits after_symbol result }
 {
@@ -31,6 +32,13 @@ fn own_symbol(form: Option<Form>) -> SymbolSet
     }
 }
 
+// Whether the part is a symbol part.
+fn is_symbol_part(form: Option<Form>) -> bool
+    ensures { result ≡ is_symbol_form form }
+{
+    matches!(form, Some(Form::Symbol(_)))
+}
+
 /// The place of the first part that is a count of something else than a symbol
 /// part, or a symbol already met; none exactly where the model is conflict-free.
 pub fn first_conflict(model: &Model<'_>) -> Option<usize>
@@ -47,7 +55,7 @@ pub fn first_conflict(model: &Model<'_>) -> Option<usize>
             return Some(place);
         }
         seen = seen.union(own_symbol(form));
-        after_symbol = part.kind == 1;
+        after_symbol = is_symbol_part(form);
     }
     None
 }

@@ -26,6 +26,7 @@ impl Summary for HasSymbol {
         left || right
     }
 
+    // the code of `choice`, and so for an interleave; each has its own law
     fn sequence(&self, left: bool, right: bool) -> bool {
         left || right
     }

@@ -36,13 +36,14 @@ pub(crate) fn apply<S: Summary>(summary: &S, form: Form, stack: &mut Stack<'_, S
         Form::Nonempty => stack.pop().map(|of| summary.nonempty(of)),
     };
     if let Some(value) = made {
+        // there is room, so nothing comes back
         let _ = stack.push(value);
     }
 }
 
 /// What a summary tells of a model. The working array is scratch: it comes
-/// back with whatever was left in it. By a rule of the project it is made by
-/// repetition where each summary is asked, and not here.
+/// back with whatever was left in it. It is made by repetition where each
+/// summary is asked, and not here (docs/DECISIONS.md, "Lent slices").
 pub fn work_up<S: Summary>(
     summary: &S,
     model: &Model<'_>,

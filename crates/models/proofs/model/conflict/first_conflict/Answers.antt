@@ -23,7 +23,7 @@ pub loop-place-preserved : goal.loop-place-preserved
 loop-place-preserved c =
     let here = get_or c.parts-part-items.result.now c.loop-place.place (part 0 0 0 0) in
     let form = c.ok-form.ensures.value ∙ named_form here _ c.try_from.ensures in
-    rw (c.union-seen.ensures, c.own_symbol.ensures, form)
+    rw (c.union-seen.ensures, c.own_symbol.ensures, c.is_symbol_part-after_symbol.ensures, form)
     (walked_more _ c.parts-part-items.ensures.checked _ _ _ _ _ c.loop-place.invariant c.loop-place-test.true (rw form at c.clashes.ensures) c.if-clashes.false)
 
 pub returns : goal.returns
