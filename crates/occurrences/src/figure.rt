@@ -9,8 +9,8 @@ use std::fmt;
 
 /// A number of occurrences, as far as it is known. No bound of a count is above
 /// 10,000, so numbers above it need not be told apart. The cases ascend, for the
-/// derived order. No `Option`: its `None` would be above 10,000, that of `Most`
-/// no end, and the two could be mixed.
+/// derived order. No `Option`: its `None` would be taken for that of the fewest, and
+/// would be the lowest and not the highest.
 #[derive(Clone, Copy, PartialEq, Eq, PartialOrd, Ord)]
 pub enum Figure {
     /// This number, which is at most 10,000.
@@ -19,8 +19,9 @@ pub enum Figure {
     Above,
 }
 
-/// The most occurrences. The cases ascend here too. No `Option`: its `None` could
-/// be mixed with that of a `Figure`.
+/// The most occurrences. The cases ascend here too. No `Option`: its `None` would
+/// be taken for that of the fewest, where no message has the symbol, and would be
+/// the lowest and not the highest.
 #[derive(Clone, Copy, PartialEq, Eq, PartialOrd, Ord)]
 pub enum Most {
     Ends(Figure),
@@ -41,6 +42,8 @@ impl From<u32> for Figure {
     }
 }
 
+// Each promise is of figures that are known of some number: an enum can have no
+// invariant, and a struct round it would be no plainer.
 impl Figure {
     pub(crate) fn is_zero(self) -> bool
         ensures { (a : ℕ) → self ≡ figure a → Decides result (a ≡ 0) }

@@ -88,6 +88,7 @@ impl Summary for Occurs {
         }
     }
 
+    // as `sequence`, by the other method of `Every`; its law is another
     fn interleave(&self, left: Occurring, right: Occurring) -> Occurring {
         Occurring {
             fewest: fewest_side_by_side(left, right),
@@ -136,6 +137,8 @@ fn fewest_of_both(left: Figure, right: Figure, every_left: bool, every_right: bo
     }
 }
 
+// The match of `fewest_of_either`, with another figure where both sides have one: a
+// function that takes it as a closure would be no plainer.
 fn fewest_side_by_side(left: Occurring, right: Occurring) -> Option<Figure>
     ensures { (s : ℕ) (t u : Tree) → Formed t → Formed u → OccurringIs s t left → OccurringIs s u right → FewestIs s (sequence_tree t u) result × FewestIs s (interleave_tree t u) result }
 {
@@ -183,12 +186,8 @@ fn most_repeated(of: Most, high: u32) -> Most
 pub fn occurrences_of(model: &Model<'_>, symbol: u32) -> Occurring
     ensures { OccurringIs symbol (tree_of model.now) result }
 {
-    let none = Occurring {
-        fewest: None,
-        most: Most::NoEnd,
-        every: (false, false),
-    };
-    // made here for this summary by a rule of the project
-    let mut work = [none; MOST_PARTS];
-    work_up(&Occurs { symbol }, model, &mut work)
+    let occurs = Occurs { symbol };
+    // one array for each summary (docs/DECISIONS.md, "Lent slices")
+    let mut work = [occurs.empty(); MOST_PARTS];
+    work_up(&occurs, model, &mut work)
 }

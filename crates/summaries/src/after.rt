@@ -17,7 +17,7 @@ pub struct After {
 }
 
 /// What is told of two symbols.
-#[derive(Clone, Copy)]
+#[derive(Clone, Copy, Default)]
 pub struct Order {
     /// Whether some message has the first after the second.
     pub after: bool,
@@ -27,21 +27,13 @@ pub struct Order {
     pub second: bool,
 }
 
-impl Order {
-    const NONE: Order = Order {
-        after: false,
-        first: false,
-        second: false,
-    };
-}
-
 impl Summary for After {
     type Value = Order;
 
     ghost means = { λ self t v. OrderIs self.first self.second t v };
 
     fn empty(&self) -> Order {
-        Order::NONE
+        Order::default()
     }
 
     fn symbol(&self, symbol: u32) -> Order {
@@ -102,7 +94,8 @@ fn either(left: Order, right: Order) -> Order
 pub fn order_of(model: &Model<'_>, first: u32, second: u32) -> Order
     ensures { OrderIs first second (tree_of model.now) result }
 {
-    // made here for this summary by a rule of the project
-    let mut work = [Order::NONE; MOST_PARTS];
-    work_up(&After { first, second }, model, &mut work)
+    // one array for each summary (docs/DECISIONS.md, "Lent slices")
+    let after = After { first, second };
+    let mut work = [after.empty(); MOST_PARTS];
+    work_up(&after, model, &mut work)
 }

@@ -4,7 +4,7 @@ ghost use Rattle.std.specs.Prelude.{◌≡◌, ◌&&◌, ◌||◌};
 ghost use Rattle.models.specs.Checked.{tree_of};
 ghost use Rattle.summaries.specs.Brought.{BroughtIs};
 
-use crate::every::Every;
+use crate::every::{Every, both_or_other};
 use models::model::Model;
 use models::summary::Summary;
 use models::summary::work::work_up;
@@ -60,6 +60,7 @@ impl Summary for Brings {
         }
     }
 
+    // as `sequence`, by the other method of `Every`; its law is another
     fn interleave(&self, left: Brought, right: Brought) -> Brought {
         Brought {
             brings: side_by_side(left, right),
@@ -88,7 +89,7 @@ impl Summary for Brings {
 fn side_by_side(left: Brought, right: Brought) -> bool
     ensures { result ≡ ((left.brings || right.every.0) && (left.every.0 || right.brings)) }
 {
-    (left.brings | right.every.0) & (left.every.0 | right.brings)
+    both_or_other(left.brings, left.every.0, right.brings, right.every.0)
 }
 
 /// Whether in the model a symbol of the first set always brings one of the
@@ -96,12 +97,9 @@ fn side_by_side(left: Brought, right: Brought) -> bool
 pub fn brings_of(model: &Model<'_>, first: SymbolSet, second: SymbolSet) -> Brought
     ensures { BroughtIs first.bits second.bits (tree_of model.now) result }
 {
-    let none = Brought {
-        brings: false,
-        every: (false, false),
-    };
     let second = Every { set: second };
-    // made here for this summary by a rule of the project
-    let mut work = [none; MOST_PARTS];
-    work_up(&Brings { first, second }, model, &mut work)
+    let brings = Brings { first, second };
+    // one array for each summary (docs/DECISIONS.md, "Lent slices")
+    let mut work = [brings.empty(); MOST_PARTS];
+    work_up(&brings, model, &mut work)
 }

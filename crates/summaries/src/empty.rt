@@ -35,6 +35,7 @@ impl Summary for EmptyFits {
         left & right
     }
 
+    // the code of `sequence`; its law is another
     fn interleave(&self, left: bool, right: bool) -> bool {
         left & right
     }
@@ -54,7 +55,7 @@ pub fn empty_fits(model: &Model<'_>) -> bool
     ensures exact { Decides result (Fits (tree_of model.now) []) }
     ensures counts { EmptyCount }
 {
-    // made here for this summary by a rule of the project
-    let mut work = [false; MOST_PARTS];
+    // one array for each summary (docs/DECISIONS.md, "Lent slices")
+    let mut work = [EmptyFits.empty(); MOST_PARTS];
     work_up(&EmptyFits, model, &mut work)
 }

@@ -17,7 +17,7 @@ pub struct Every {
 }
 
 impl Summary for Every {
-    // a pair and no struct by a rule of the project
+    // a pair and no struct (docs/DECISIONS.md, "The pair of a set")
     type Value = (bool, bool);
 
     ghost means = { λ self t v. EveryHas self.set.bits t v };
@@ -39,6 +39,7 @@ impl Summary for Every {
         side_by_side(left, right)
     }
 
+    // the code of `sequence`; its law is another
     fn interleave(&self, left: (bool, bool), right: (bool, bool)) -> (bool, bool) {
         side_by_side(left, right)
     }
@@ -62,8 +63,16 @@ fn side_by_side(left: (bool, bool), right: (bool, bool)) -> (bool, bool)
     let (every_right, nonempty_right) = right;
     (
         every_left | every_right,
-        (nonempty_left | every_right) & (every_left | nonempty_right),
+        both_or_other(nonempty_left, every_left, nonempty_right, every_right),
     )
+}
+
+/// Whether what is so of each side is so of the two put together, where a side whose
+/// messages all have a symbol of the set makes up for the other.
+pub(crate) fn both_or_other(left: bool, every_left: bool, right: bool, every_right: bool) -> bool
+    ensures { result ≡ ((left || every_right) && (every_left || right)) }
+{
+    (left | every_right) & (every_left | right)
 }
 
 /// Whether every message of the model has a symbol of the set, and whether
@@ -71,7 +80,8 @@ fn side_by_side(left: (bool, bool), right: (bool, bool)) -> (bool, bool)
 pub fn every_of(model: &Model<'_>, set: SymbolSet) -> (bool, bool)
     ensures { EveryHas set.bits (tree_of model.now) result }
 {
-    // made here for this summary by a rule of the project
-    let mut work = [(false, false); MOST_PARTS];
-    work_up(&Every { set }, model, &mut work)
+    // one array for each summary (docs/DECISIONS.md, "Lent slices")
+    let every = Every { set };
+    let mut work = [every.empty(); MOST_PARTS];
+    work_up(&every, model, &mut work)
 }

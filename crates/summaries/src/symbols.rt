@@ -30,6 +30,7 @@ impl Summary for Symbols {
         left.union(right)
     }
 
+    // the code of `choice`, and so for an interleave; each has its own law
     fn sequence(&self, left: SymbolSet, right: SymbolSet) -> SymbolSet {
         left.union(right)
     }
@@ -53,7 +54,7 @@ pub fn symbols_of(model: &Model<'_>) -> SymbolSet
     ensures exact { SymbolsAre (tree_of model.now) result.bits }
     ensures standing { StandingAre (tree_of model.now) result.bits }
 {
-    // made here for this summary by a rule of the project
-    let mut work = [SymbolSet::EMPTY; MOST_PARTS];
+    // one array for each summary (docs/DECISIONS.md, "Lent slices")
+    let mut work = [Symbols.empty(); MOST_PARTS];
     work_up(&Symbols, model, &mut work)
 }
