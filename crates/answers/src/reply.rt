@@ -35,6 +35,7 @@ impl Reply {
     pub fn of(model: &Model<'_>, question: Question) -> Reply
         ensures { Replied question (tree_of model.now) result }
     {
+        // a match and no table, which is no plainer: each question asks another summary
         match question {
             Question::Every { set } => {
                 let (every, nonempty) = every_of(model, set);

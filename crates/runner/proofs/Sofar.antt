@@ -10,7 +10,7 @@ use Rattle.script.specs.declared.call.Call.{Call}
 use Rattle.parts.specs.declared.refusal.Refusal.{Refusal}
 use Rattle.answers.specs.Answers.{CallAnswered}
 use Rattle.answers.specs.declared.reply.Reply.{Reply}
-use Rattle.runner.specs.Scripts.{WordsAre, spaced, answer_said, Said, Answered, LineWritten, ScriptWritten}
+use Rattle.runner.specs.Scripts.{WordsAre, spaced, answer_said, Said, Written, LineWritten, ScriptWritten}
 use Rattle.runner.specs.declared.failure.Failure.{Failure}
 use Rattle.runner.specs.declared.failure.Failure.TheVariants.{TooManyArguments, BadFile, BadInput, BadLine, Io}
 use Rattle.std.proofs.lemmas.List.{take_more, take-append-drop, length-take-le}
@@ -44,14 +44,14 @@ module _ {line rest : List ℕ} {old new : Option (List ℕ)} {gap : List ℕ} (
   }
 
 -- a line that makes no call
-pub line_none : (calls : Calls) (line : List ℕ) (old : Option (List ℕ)) → LineRead calls line (Ok None) → Answered calls (line ∷ []) old old
+pub line_none : (calls : Calls) (line : List ℕ) (old : Option (List ℕ)) → LineRead calls line (Ok None) → Written calls (line ∷ []) old old
 line_none calls line old h = ([], ([], [], refl, inl (h, refl), refl), appends_none old)
 
 -- a line that makes a call, whose words and answer are written
 pub line_said : (calls : Calls) (line : List ℕ) (call : Call) (answer : Result Reply Refusal) (old mid new : Option (List ℕ))
     → LineRead calls line (Ok (Some call)) → CallAnswered call answer
     → (ws : List (List ℕ)) × WordsAre line ws × Appends old mid (spaced ws)
-    → Appends mid new (codes ": " ++ (answer_said answer ++ (10 ∷ []))) → Answered calls (line ∷ []) old new
+    → Appends mid new (codes ": " ++ (answer_said answer ++ (10 ∷ []))) → Written calls (line ∷ []) old new
 line_said calls line call answer old mid new h a (ws, are, front) back =
     let said = spaced ws ++ (codes ": " ++ (answer_said answer ++ (10 ∷ []))) in
     (said, (said, [], sym (append-nil said), inr (call, h, (ws, answer, are, a, refl)), refl), appends_both old mid new _ _ front back)
@@ -62,15 +62,15 @@ said_both calls (x ∷ xs) ys a b (first, others, cut, one, h) k =
     (first, others ++ b, ap (λ l. l ++ b) cut ∙ append_assoc first others b, one, said_both calls xs ys others b h k)
 
 -- lines answered after lines
-pub answered_both : (calls : Calls) (xs ys : List (List ℕ)) (old mid new : Option (List ℕ)) → Answered calls xs old mid → Answered calls ys mid new → Answered calls (xs ++ ys) old new
+pub answered_both : (calls : Calls) (xs ys : List (List ℕ)) (old mid new : Option (List ℕ)) → Written calls xs old mid → Written calls ys mid new → Written calls (xs ++ ys) old new
 answered_both calls xs ys old mid new (a, h, f) (b, k, g) = (a ++ b, said_both calls xs ys a b h k, appends_both old mid new a b f g)
 
 -- one line more
 pub answered_more : (calls : Calls) (lines : List (List ℕ)) (n : ℕ) (line : List ℕ) (old mid new : Option (List ℕ))
     → n < length lines → line ≡ get_or lines n line
-    → Answered calls (take n lines) old mid → Answered calls (line ∷ []) mid new → Answered calls (take (n + 1) lines) old new
+    → Written calls (take n lines) old mid → Written calls (line ∷ []) mid new → Written calls (take (n + 1) lines) old new
 answered_more calls lines n line old mid new within is h k =
-    subst (λ ls. Answered calls ls old new) (ap (λ l. take n lines ++ (l ∷ [])) is ∙ sym (take_more lines n line within)) (answered_both calls (take n lines) (line ∷ []) old mid new h k)
+    subst (λ ls. Written calls ls old new) (ap (λ l. take n lines ++ (l ∷ [])) is ∙ sym (take_more lines n line within)) (answered_both calls (take n lines) (line ∷ []) old mid new h k)
 
 drop_one : (lines : List (List ℕ)) (n : ℕ) (line : List ℕ) → n < length lines → drop n lines ≡ get_or lines n line ∷ drop (n + 1) lines
 drop_one lines n line within = rw add-one (drop-cons lines n line within)
@@ -86,7 +86,7 @@ numbered lines i n line (within, is) =
 -- the line after those that are answered ends the run
 pub script_ended : (calls : Calls) (lines : List (List ℕ)) (n place : ℕ) (line : List ℕ) (old mid new : Option (List ℕ)) (failure : Failure)
     → n < length lines → place ≡ n → line ≡ get_or lines n line
-    → Answered calls (take n lines) old mid → LineWritten calls (place + 1) line mid new (Err failure) → ScriptWritten calls lines old new (Err failure)
+    → Written calls (take n lines) old mid → LineWritten calls (place + 1) line mid new (Err failure) → ScriptWritten calls lines old new (Err failure)
 script_ended calls lines n place line old mid new TooManyArguments within at is h k = absurd k
 script_ended calls lines n place line old mid new (BadFile path error) within at is h k = absurd k
 script_ended calls lines n place line old mid new (BadInput error) within at is h k = absurd k

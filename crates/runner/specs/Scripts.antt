@@ -54,12 +54,12 @@ abbrev pub IsBad : Calls → List ℕ → List ℕ → Type 0
 IsBad calls line reason = (error : LineError) × LineRead calls line (Err error) × (reason ≡ complaint error)
 
 -- old grows to new by what goes to the lines
-abbrev pub Answered : Calls → List (List ℕ) → Option (List ℕ) → Option (List ℕ) → Type 0
-Answered calls lines old new = (said : List ℕ) × Said calls lines said × Appends old new said
+abbrev pub Written : Calls → List (List ℕ) → Option (List ℕ) → Option (List ℕ) → Type 0
+Written calls lines old new = (said : List ℕ) × Said calls lines said × Appends old new said
 
 -- a line is answered, or it is bad and nothing is written
 abbrev pub LineWritten : Calls → ℕ → List ℕ → Option (List ℕ) → Option (List ℕ) → Result (Unit {0}) Failure → Type 0
-LineWritten calls n line old new (Ok u) = Answered calls (line ∷ []) old new
+LineWritten calls n line old new (Ok u) = Written calls (line ∷ []) old new
 LineWritten calls n line old new (Err TooManyArguments) = ⊥
 LineWritten calls n line old new (Err (BadFile path error)) = ⊥
 LineWritten calls n line old new (Err (BadInput error)) = ⊥
@@ -68,11 +68,11 @@ LineWritten calls n line old new (Err (Io error)) = Unit {0}
 
 -- the lines are all answered, or those before the first bad one are, which the failure numbers from 1
 abbrev pub ScriptWritten : Calls → List (List ℕ) → Option (List ℕ) → Option (List ℕ) → Result (Unit {0}) Failure → Type 0
-ScriptWritten calls lines old new (Ok u) = Answered calls lines old new
+ScriptWritten calls lines old new (Ok u) = Written calls lines old new
 ScriptWritten calls lines old new (Err TooManyArguments) = ⊥
 ScriptWritten calls lines old new (Err (BadFile path error)) = ⊥
 ScriptWritten calls lines old new (Err (BadInput error)) = ⊥
 ScriptWritten calls lines old new (Err (BadLine number reason)) =
     (before : List (List ℕ)) × (line : List ℕ) × (after : List (List ℕ)) × (lines ≡ before ++ (line ∷ after))
-    × (number ≡ length before + 1) × IsBad calls line (string_bytes reason) × Answered calls before old new
+    × (number ≡ length before + 1) × IsBad calls line (string_bytes reason) × Written calls before old new
 ScriptWritten calls lines old new (Err (Io error)) = Unit {0}

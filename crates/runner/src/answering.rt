@@ -1,5 +1,4 @@
 //! What is written for a script: an answer to each of its calls, line after line.
-ghost use Rattle.std.specs.Prelude.{◌≡◌};
 ghost use Rattle.std.specs.Str.Lines.{lines};
 ghost use Rattle.runner.specs.Scripts.{LineWritten, ScriptWritten};
 
@@ -12,7 +11,7 @@ use std::alloc::Global;
 use std::io;
 
 /// Answers the calls of a script in turn, each on a line of its own; a line that is no call
-/// ends the run.
+/// ends the run. The memory is handed in beside what it serves, as in the library.
 pub fn answer_script<W: io::Write>(
     heap: Global,
     calls: Calls,

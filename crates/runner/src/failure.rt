@@ -21,7 +21,7 @@ impl From<io::Error> for Failure {
     ghost from_gives = { λ _ failure. IsIo failure };
 
     fn from(error: io::Error) -> Failure {
-        Failure::Io { error }
+        Self::Io { error }
     }
 }
 
@@ -29,8 +29,7 @@ impl From<AllocError> for Failure {
     ghost from_gives = { λ _ failure. IsIo failure };
 
     fn from(error: AllocError) -> Failure {
-        let error = error.into();
-        Failure::Io { error }
+        Failure::from(io::Error::from(error))
     }
 }
 

@@ -1,6 +1,6 @@
-//! A run of a program over a script: the script is read from a file or from standard
-//! input, each call is printed with its answer (`program`), and what ends a run early is
-//! said, with a status (`failure`).
+//! A run of a program over a script: it is read from a file or from standard input
+//! (`program`), an answer is written to each of its calls (`answering`, `writing`), and
+//! what ends a run early is said, with a status (`failure`).
 
 #![tactic(auto)]
 

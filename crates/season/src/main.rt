@@ -2,6 +2,9 @@
 
 #![tactic(auto)]
 
+ghost use Rattle.std.specs.Prelude.{◌≡◌};
+ghost use Rattle.script.specs.declared.calls.Calls.TheVariants.{CheckOnly};
+
 use runner::failure::finish;
 use runner::program::Program;
 use script::calls::Calls;
@@ -24,11 +27,16 @@ example:
 A line that is no call ends the run with a message and status 1.
 ";
 
-const PROGRAM: Program = Program {
-    usage: USAGE,
-    calls: Calls::CheckOnly,
-};
-
 fn main(rt: HostRuntime) -> ExitCode {
-    finish(&rt, PROGRAM.run(&rt))
+    finish(&rt, program().run(&rt))
+}
+
+// What this program has of its own.
+fn program() -> Program
+    ensures { result.calls ≡ CheckOnly }
+{
+    Program {
+        usage: USAGE,
+        calls: Calls::CheckOnly,
+    }
 }

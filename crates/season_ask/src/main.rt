@@ -3,6 +3,9 @@
 
 #![tactic(auto)]
 
+ghost use Rattle.std.specs.Prelude.{◌≡◌};
+ghost use Rattle.script.specs.declared.calls.Calls.TheVariants.{CheckAndAsk};
+
 use runner::failure::finish;
 use runner::program::Program;
 use script::calls::Calls;
@@ -36,11 +39,16 @@ examples:
 A line that is no call ends the run with a message and status 1.
 ";
 
-const PROGRAM: Program = Program {
-    usage: USAGE,
-    calls: Calls::CheckAndAsk,
-};
-
 fn main(rt: HostRuntime) -> ExitCode {
-    finish(&rt, PROGRAM.run(&rt))
+    finish(&rt, program().run(&rt))
+}
+
+// What this program has of its own.
+fn program() -> Program
+    ensures { result.calls ≡ CheckAndAsk }
+{
+    Program {
+        usage: USAGE,
+        calls: Calls::CheckAndAsk,
+    }
 }

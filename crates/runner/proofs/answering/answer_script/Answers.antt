@@ -1,7 +1,7 @@
 use Rattle.std.proofs.Common.{rules, length, take, sym, subst, arith}
 use Rattle.std.proofs.lemmas.List.{length_push, take_all}
 use Rattle.std.proofs.lemmas.List.FromFn.{length-enumerate_from}
-use Rattle.runner.specs.Scripts.{Answered}
+use Rattle.runner.specs.Scripts.{Written}
 use Rattle.std.proofs.lemmas.Iterator.Consumers.{YieldsList-turn, YieldsList-end, YieldsList-from_enumerate}
 use Rattle.std.proofs.lemmas.Iterator.Splits.{YieldsList-from_lines}
 use Rattle.std.proofs.lemmas.Result.{err_from_is_err_and}
@@ -21,7 +21,7 @@ loop-place-preserved g c =
     record {
       next = search rules;
       finite = search rules;
-      answered = subst (λ n. Answered c.args.calls (take n lines_all) (g.W.Write.contents c.args.out.now) (g.W.Write.contents c.answer_line.new.out)) one_more more;
+      answered = subst (λ n. Written c.args.calls (take n lines_all) (g.W.Write.contents c.args.out.now) (g.W.Write.contents c.answer_line.new.out)) one_more more;
     }
 
 pub returns-in_err-answer_line : goal.returns-in_err-answer_line
@@ -39,4 +39,4 @@ returns g c =
     let all = YieldsList-from_enumerate (YieldsList-from_lines c.args.text.now cc) cc in
     let end = YieldsList-end all c.loop-place.yielded _ c.loop-place.yielded_by _ _ c.in-None.is c.next.ensures.steps in
     let whole = take_all (length c.loop-place.yielded) (lines c.args.text.now) (omega (arith, end.1, length-enumerate_from 0 (lines c.args.text.now))) in
-    subst (λ ls. Answered c.args.calls ls (g.W.Write.contents c.args.out.now) (g.W.Write.contents c.loop-place.out)) whole c.loop-place.invariant.answered
+    subst (λ ls. Written c.args.calls ls (g.W.Write.contents c.args.out.now) (g.W.Write.contents c.loop-place.out)) whole c.loop-place.invariant.answered
