@@ -1,14 +1,8 @@
--- What a reader has still to read, and what it reads next. Assumes nothing.
+-- What a reader reads next. Assumes nothing.
 use Rattle.std.specs.Prelude.{ℕ, List, Some, None, Ok, Err, IfSome, Option, Result}
 use Rattle.std.specs.Borrow.{Bor}
-use Rattle.std.specs.Str.Iter.{split_whitespace_rest}
 use Rattle.script.specs.Words.{First, Next}
 use Rattle.script.specs.declared.error.LineError.{LineError}
-use Rattle.script.specs.declared.reader.Reader.{Reader}
-
--- the text that is left to a reader
-abbrev pub left : Reader → List ℕ
-left reader = split_whitespace_rest reader.words
 
 -- the first word of bs gives x, and rest follows it; or it gives nothing, or bs has no word, and e tells of what comes in its place
 abbrev pub ReadNext : {X : Type 0} → (Bor (List ℕ) → Option X → Type 0) → (Option (Bor (List ℕ)) → LineError → Type 0) → List ℕ → Result X LineError → List ℕ → Type 0

@@ -1,7 +1,6 @@
 //! From a line of a script to the call that it makes, or to what is wrong with it.
 ghost use Rattle.std.specs.Prelude.{MatchResult};
 ghost use Rattle.script.specs.Lines.{AllAsk, NotAsk, CallRead, LineRead};
-ghost use Rattle.script.specs.Reader.{left};
 
 use crate::calls::Calls;
 use crate::error::LineError;
@@ -46,7 +45,7 @@ impl Call {
 
     /// The call of a name and the words after it.
     fn named<'a>(calls: Calls, name: &'a str, reader: Reader<'a>) -> Result<Call, LineError<'a>>
-        ensures { CallRead calls name.now (left reader.entry) result }
+        ensures { CallRead calls name.now reader.entry result }
     {
         // a match and no table, which is no plainer: each call reads other words
         match name {
@@ -65,7 +64,7 @@ impl Call {
 
 /// The words after `ask` are a question, a colon and the parts.
 fn question_and_parts(mut reader: Reader<'_>) -> Result<(Question, Vec<Part>), LineError<'_>>
-    ensures { MatchResult result (λ r. AllAsk (left reader.entry) r.0 r.1.items) (NotAsk (left reader.entry)) }
+    ensures { MatchResult result (λ r. AllAsk reader.entry r.0 r.1.items) (NotAsk reader.entry) }
 {
     let question = reader.next_question()?;
     reader.next_colon()?;

@@ -1,7 +1,6 @@
 //! A question to a model, and the words that ask it.
 ghost use Rattle.std.specs.Prelude.{codes, MatchResult};
 ghost use Rattle.script.specs.Questions.{NoColon, SetNext, SymbolNext, QuestionNext};
-ghost use Rattle.script.specs.Reader.{left};
 ghost use Rattle.script.specs.Words.{First};
 
 use crate::error::LineError;
@@ -24,20 +23,20 @@ pub enum Question {
 
 impl<'a> Reader<'a> {
     fn next_set(&mut self) -> Result<SymbolSet, LineError<'a>>
-        ensures { SetNext (left self.old) result (left self.new) }
+        ensures { SetNext self.old result self.new }
     {
         self.read_next(read::set, |word| LineError::NotSet { word })
     }
 
     fn next_symbol(&mut self) -> Result<u32, LineError<'a>>
-        ensures { SymbolNext (left self.old) result (left self.new) }
+        ensures { SymbolNext self.old result self.new }
     {
         self.read_next(read::number, |word| LineError::NotSymbol { word })
     }
 
     /// The question that the next words ask.
     pub(crate) fn next_question(&mut self) -> Result<Question, LineError<'a>>
-        ensures { QuestionNext (left self.old) result (left self.new) }
+        ensures { QuestionNext self.old result self.new }
     {
         let name = self.next_word();
         // a match and no table, which is no plainer: each question reads other words
@@ -66,7 +65,7 @@ impl<'a> Reader<'a> {
 
     /// The colon that ends a question.
     pub(crate) fn next_colon(&mut self) -> Result<(), LineError<'a>>
-        ensures { MatchResult result (λ _. First (left self.old) (codes ":") (left self.new)) (NoColon (left self.old)) }
+        ensures { MatchResult result (λ _. First self.old (codes ":") self.new) (NoColon self.old) }
     {
         let word = self.next_word();
         match word {

@@ -1,13 +1,15 @@
 //! Reads a line from its front to its end, word by word.
-ghost use Rattle.std.specs.Prelude.{◌≡◌, MatchResult};
+ghost use Rattle.std.specs.Prelude.{◌≡◌, ℕ, List, MatchResult};
+ghost use Rattle.std.specs.Str.Iter.{split_whitespace_rest};
 ghost use Rattle.script.specs.Lines.{AllParts, NotParts};
-ghost use Rattle.script.specs.Reader.{left, ReadNext};
+ghost use Rattle.script.specs.Reader.{ReadNext};
 ghost use Rattle.script.specs.Words.{Next};
 
 use crate::error::LineError;
 use crate::read;
 use parts::part::Part;
 use std::alloc::Global;
+use std::marker::Model;
 use std::str::SplitWhitespace;
 
 /// The words of a line that are still to be read, and the memory for what they write.
@@ -17,10 +19,17 @@ pub(crate) struct Reader<'a> {
     words: SplitWhitespace<'a>,
 }
 
+// Clauses see the text that is left to read, since all that is read next comes of it.
+impl<'a> Model for Reader<'a> {
+    ghost Value = { List ℕ };
+
+    ghost view = { λ r. split_whitespace_rest r.words };
+}
+
 impl<'a> Reader<'a> {
     /// At the front of a line.
     pub(crate) fn new(heap: Global, line: &'a str) -> Reader<'a>
-        ensures { left result ≡ line.now }
+        ensures { result ≡ line.now }
     {
         let words = line.split_whitespace();
         Reader { heap, words }
@@ -28,7 +37,7 @@ impl<'a> Reader<'a> {
 
     /// The next word, if the line has one more.
     pub(crate) fn next_word(&mut self) -> Option<&'a str>
-        ensures { Next (left self.old) result (left self.new) }
+        ensures { Next self.old result self.new }
     {
         self.words.next()
     }
@@ -40,7 +49,7 @@ impl<'a> Reader<'a> {
         W: FnOnce(Option<&'a str>) -> LineError<'a>,
         requires reads { R.IsAlwaysCallable read }
         requires tells { W.IsAlwaysCallable wrong }
-        ensures { ReadNext (R.post read) (W.post wrong) (left self.old) result (left self.new) }
+        ensures { ReadNext (R.post read) (W.post wrong) self.old result self.new }
     {
         let word = self.next_word();
         // no `ok_or_else`: it gets no proof yet with a closure that gives a borrow
@@ -49,7 +58,7 @@ impl<'a> Reader<'a> {
 
     /// The parts that all the words left write.
     pub(crate) fn parts(self) -> Result<Vec<Part>, LineError<'a>>
-        ensures { MatchResult result (λ parts. AllParts (left self.entry) parts.items) (NotParts (left self.entry)) }
+        ensures { MatchResult result (λ parts. AllParts self.entry parts.items) (NotParts self.entry) }
     {
         let mut parts = Vec::new(self.heap);
         for word in self.words {
