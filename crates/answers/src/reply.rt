@@ -31,7 +31,8 @@ pub enum Reply {
 }
 
 impl Reply {
-    /// The reply of the model to the question.
+    /// The reply of the model to the question. No `From`, which is no plainer: it takes a
+    /// question too, and asks the library.
     pub fn of(model: &Model<'_>, question: Question) -> Reply
         ensures { Replied question (tree_of model.now) result }
     {

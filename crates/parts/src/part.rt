@@ -32,7 +32,8 @@ pub struct Part {
 pub struct Repeats {
     /// the fewest repetitions
     pub low: u32,
-    /// the most repetitions, or 0 for no upper end
+    /// the most repetitions, or 0 for no upper end: no `Option`, since tables and the
+    /// definitions of messages write it so (docs/MODELS.md)
     pub high: u32,
 }
 

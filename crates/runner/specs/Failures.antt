@@ -1,4 +1,4 @@
--- What is said where a run ended early. Assumes nothing.
+-- Why a run ended early: what is said of it, and what an error makes of it. Assumes nothing.
 use Rattle.std.specs.Prelude.{ℕ, List, ◌++◌, Some, None, string_bytes, codes, decimal, Option}
 use Rattle.runner.specs.declared.failure.Failure.{Failure}
 use Rattle.runner.specs.declared.failure.Failure.TheVariants.{TooManyArguments, BadFile, BadInput, BadLine, Io}
@@ -11,7 +11,7 @@ failure_said (BadInput error) = None
 failure_said (BadLine number reason) = Some (codes "line " ++ (decimal number ++ (codes ": " ++ string_bytes reason)))
 failure_said (Io error) = None
 
--- what comes of an error of reading or writing, or of memory that ran out
+-- an error that has no case of its own, or memory that ran out
 abbrev pub IsIo : Failure → Type 0
 IsIo TooManyArguments = ⊥
 IsIo (BadFile path error) = ⊥

@@ -15,7 +15,8 @@ pub struct Program {
 }
 
 impl Program {
-    /// Answers the script that the arguments name, or that of standard input. No clause
+    /// Answers the script that the arguments name, or that of standard input, or prints the
+    /// help. No clause
     /// says more: what arguments, files and standard input hold is known to none, and what
     /// is written for a script is promised by `answer_script`.
     pub fn run(&self, rt: &HostRuntime) -> Result<(), Failure> {

@@ -9,8 +9,8 @@ use crate::reader::Reader;
 use parts::part::Part;
 use std::alloc::Global;
 
-/// A call of a script. A call more is a variant here, a name in `Calls`, an arm in `named` with the
-/// function that reads its words, and an arm in the program with the function that answers it.
+/// A call of a script. A call more is a variant here, a name in `Calls`, an arm in `named` with
+/// what reads its words, and an arm in `answer_call` of `answers`.
 #[derive(Drop)]
 pub enum Call {
     /// Check parts as a model.

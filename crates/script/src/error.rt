@@ -18,7 +18,7 @@ pub enum LineError<'a> {
     NotSet { word: Option<&'a str> },
     /// A word is not written as a symbol.
     NotSymbol { word: Option<&'a str> },
-    /// A word stands where the colon before the parts should.
+    /// No colon stands before the parts.
     NotColon { word: Option<&'a str> },
     /// A word is not written as a part; `count` numbers the parts of the line from 1.
     NotPart { count: usize, word: &'a str },
@@ -69,7 +69,8 @@ impl fmt::Display for LineError<'_> {
     }
 }
 
-/// A word, or what stands in its place where the line ends before it.
+/// A word, or what stands in its place where the line ends before it. No `Display`, which is
+/// no plainer: an `Option` has no text of its own.
 fn or_end(word: Option<&str>) -> &str
     ensures { result.now ≡ word_or_end word.entry }
 {

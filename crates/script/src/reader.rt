@@ -52,7 +52,7 @@ impl<'a> Reader<'a> {
         ensures { ReadNext (R.post read) (W.post wrong) self.old result self.new }
     {
         let word = self.next_word();
-        // no `ok_or_else`: it gets no proof yet with a closure that gives a borrow
+        // no `ok_or_else`: no proof closes yet of a closure that gives back a borrow it captured
         word.and_then(read).ok_or(wrong(word))
     }
 

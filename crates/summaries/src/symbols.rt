@@ -43,6 +43,7 @@ impl Summary for Symbols {
         of
     }
 
+    // the code of `count`; its law is another
     fn nonempty(&self, of: SymbolSet) -> SymbolSet {
         of
     }

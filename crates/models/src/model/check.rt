@@ -55,6 +55,7 @@ fn check_parts(parts: &[Part]) -> Result<(), PartFault>
     requires { length parts.now ≤ 256 }
     ensures { Answers (reading 0 parts.now []) result }
 {
+    // one array for each summary (docs/DECISIONS.md, "Lent slices")
     let mut flags = [false; MOST_PARTS];
     let mut waiting = Stack::new(&mut flags);
     for (place, part) in parts.iter().enumerate() {

@@ -39,6 +39,7 @@ impl Summary for HasSymbol {
         of
     }
 
+    // the code of `count`; its law is another
     fn nonempty(&self, of: bool) -> bool {
         of
     }
