@@ -10,9 +10,9 @@ use script::calls::Calls;
 use std::alloc::Global;
 use std::io;
 
-/// Answers the calls of a script in turn, each on a line of its own; a line that is no call
-/// ends the run. The memory is handed in beside what it serves, as in the library.
-pub fn answer_script<W: io::Write>(
+/// Answers the lines of a script in turn; one that is no call ends the run. The memory is
+/// handed in beside what it serves, as in the library.
+pub(crate) fn answer_lines<W: io::Write>(
     heap: Global,
     calls: Calls,
     text: &str,

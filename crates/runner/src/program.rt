@@ -1,7 +1,11 @@
 //! A program that answers the calls of a script, one to a line.
-use crate::answering::answer_script;
+ghost use Rattle.std.specs.Str.Lines.{lines};
+ghost use Rattle.runner.specs.Scripts.{ScriptWritten};
+
+use crate::answering::answer_lines;
 use crate::failure::Failure;
 use script::calls::Calls;
+use std::alloc::Global;
 use std::io::Write;
 use std::{env, fs, io};
 
@@ -16,9 +20,8 @@ pub struct Program {
 
 impl Program {
     /// Answers the script that the arguments name, or that of standard input, or prints the
-    /// help. No clause
-    /// says more: what arguments, files and standard input hold is known to none, and what
-    /// is written for a script is promised by `answer_script`.
+    /// help. No clause says more, since none can know what arguments, files and standard
+    /// input hold; what is written for a script is promised by `answer_script`.
     pub fn run(&self, rt: &HostRuntime) -> Result<(), Failure> {
         let mut args = env::args(rt)?;
         let _program = args.next();
@@ -50,9 +53,22 @@ impl Program {
 
     fn answer(&self, rt: &HostRuntime, text: &str) -> Result<(), Failure> {
         let mut out = io::BufWriter::new(rt.alloc(), rt.stdout())?;
-        let outcome = answer_script(rt.alloc(), self.calls, text, &mut out);
+        let outcome = self.answer_script(rt.alloc(), text, &mut out);
         // what was answered comes before what is said of a line that ends the run
         out.flush()?;
         outcome
+    }
+
+    /// Answers the calls of a script in turn, each on a line of its own; a line that is none
+    /// of the program's calls ends the run.
+    pub fn answer_script<W: io::Write>(
+        &self,
+        heap: Global,
+        text: &str,
+        out: &mut W,
+    ) -> Result<(), Failure>
+        ensures { ScriptWritten self.now.calls (lines text.now) (W.contents out.old) (W.contents out.new) result }
+    {
+        answer_lines(heap, self.calls, text, out)
     }
 }

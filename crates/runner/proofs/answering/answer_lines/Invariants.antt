@@ -1,7 +1,7 @@
 use Rattle.std.proofs.Common.{length, take}
 use Rattle.std.specs.Str.Lines.{lines}
 use Rattle.runner.specs.Scripts.{Written}
-use Rattle.runner.proofs.answering.answer_script.Given as goal
+use Rattle.runner.proofs.answering.answer_lines.Given as goal
 
 -- the lines so far are answered
 abbrev pub invariant-loop-place : goal.invariant-loop-place

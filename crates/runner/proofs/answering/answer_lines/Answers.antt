@@ -7,7 +7,7 @@ use Rattle.std.proofs.lemmas.Iterator.Splits.{YieldsList-from_lines}
 use Rattle.std.proofs.lemmas.Result.{err_from_is_err_and}
 use Rattle.std.specs.Str.Lines.{lines}
 use Rattle.runner.proofs.Sofar.{numbered, answered_more, script_ended}
-use Rattle.runner.proofs.answering.answer_script.Goals as goal
+use Rattle.runner.proofs.answering.answer_lines.Goals as goal
 
 pub loop-place-preserved : goal.loop-place-preserved
 loop-place-preserved g c =
