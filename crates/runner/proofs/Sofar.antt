@@ -4,7 +4,6 @@ use Rattle.std.specs.Io.KnownBytes.{Appends}
 use Rattle.parts.proofs.Joining.{gap_after, gap_more, joined_more}
 use Rattle.script.specs.Words.{First, Begins}
 use Rattle.script.proofs.Words.{begins_more}
-use Rattle.script.specs.declared.calls.Calls.{Calls}
 use Rattle.script.specs.Lines.{LineRead}
 use Rattle.script.specs.declared.call.Call.{Call}
 use Rattle.parts.specs.declared.refusal.Refusal.{Refusal}
@@ -44,33 +43,33 @@ module _ {line rest : List ℕ} {old new : Option (List ℕ)} {gap : List ℕ} (
   }
 
 -- a line that makes no call
-pub line_none : (calls : Calls) (line : List ℕ) (old : Option (List ℕ)) → LineRead calls line (Ok None) → Written calls (line ∷ []) old old
-line_none calls line old h = ([], ([], [], refl, inl (h, refl), refl), appends_none old)
+pub line_none : (line : List ℕ) (old : Option (List ℕ)) → LineRead line (Ok None) → Written (line ∷ []) old old
+line_none line old h = ([], ([], [], refl, inl (h, refl), refl), appends_none old)
 
 -- a line that makes a call, whose words and answer are written
-pub line_said : (calls : Calls) (line : List ℕ) (call : Call) (answer : Result Reply Refusal) (old mid new : Option (List ℕ))
-    → LineRead calls line (Ok (Some call)) → CallAnswered call answer
+pub line_said : (line : List ℕ) (call : Call) (answer : Result Reply Refusal) (old mid new : Option (List ℕ))
+    → LineRead line (Ok (Some call)) → CallAnswered call answer
     → (ws : List (List ℕ)) × WordsAre line ws × Appends old mid (spaced ws)
-    → Appends mid new (codes ": " ++ (answer_said answer ++ (10 ∷ []))) → Written calls (line ∷ []) old new
-line_said calls line call answer old mid new h a (ws, are, front) back =
+    → Appends mid new (codes ": " ++ (answer_said answer ++ (10 ∷ []))) → Written (line ∷ []) old new
+line_said line call answer old mid new h a (ws, are, front) back =
     let said = spaced ws ++ (codes ": " ++ (answer_said answer ++ (10 ∷ []))) in
     (said, (said, [], sym (append-nil said), inr (call, h, (ws, answer, are, a, refl)), refl), appends_both old mid new _ _ front back)
 
-said_both : (calls : Calls) (xs ys : List (List ℕ)) (a b : List ℕ) → Said calls xs a → Said calls ys b → Said calls (xs ++ ys) (a ++ b)
-said_both calls [] ys a b h k = rw h k
-said_both calls (x ∷ xs) ys a b (first, others, cut, one, h) k =
-    (first, others ++ b, ap (λ l. l ++ b) cut ∙ append_assoc first others b, one, said_both calls xs ys others b h k)
+said_both : (xs ys : List (List ℕ)) (a b : List ℕ) → Said xs a → Said ys b → Said (xs ++ ys) (a ++ b)
+said_both [] ys a b h k = rw h k
+said_both (x ∷ xs) ys a b (first, others, cut, one, h) k =
+    (first, others ++ b, ap (λ l. l ++ b) cut ∙ append_assoc first others b, one, said_both xs ys others b h k)
 
 -- lines answered after lines
-pub answered_both : (calls : Calls) (xs ys : List (List ℕ)) (old mid new : Option (List ℕ)) → Written calls xs old mid → Written calls ys mid new → Written calls (xs ++ ys) old new
-answered_both calls xs ys old mid new (a, h, f) (b, k, g) = (a ++ b, said_both calls xs ys a b h k, appends_both old mid new a b f g)
+pub answered_both : (xs ys : List (List ℕ)) (old mid new : Option (List ℕ)) → Written xs old mid → Written ys mid new → Written (xs ++ ys) old new
+answered_both xs ys old mid new (a, h, f) (b, k, g) = (a ++ b, said_both xs ys a b h k, appends_both old mid new a b f g)
 
 -- one line more
-pub answered_more : (calls : Calls) (lines : List (List ℕ)) (n : ℕ) (line : List ℕ) (old mid new : Option (List ℕ))
+pub answered_more : (lines : List (List ℕ)) (n : ℕ) (line : List ℕ) (old mid new : Option (List ℕ))
     → n < length lines → line ≡ get_or lines n line
-    → Written calls (take n lines) old mid → Written calls (line ∷ []) mid new → Written calls (take (n + 1) lines) old new
-answered_more calls lines n line old mid new within is h k =
-    subst (λ ls. Written calls ls old new) (ap (λ l. take n lines ++ (l ∷ [])) is ∙ sym (take_more lines n line within)) (answered_both calls (take n lines) (line ∷ []) old mid new h k)
+    → Written (take n lines) old mid → Written (line ∷ []) mid new → Written (take (n + 1) lines) old new
+answered_more lines n line old mid new within is h k =
+    subst (λ ls. Written ls old new) (ap (λ l. take n lines ++ (l ∷ [])) is ∙ sym (take_more lines n line within)) (answered_both (take n lines) (line ∷ []) old mid new h k)
 
 drop_one : (lines : List (List ℕ)) (n : ℕ) (line : List ℕ) → n < length lines → drop n lines ≡ get_or lines n line ∷ drop (n + 1) lines
 drop_one lines n line within = rw add-one (drop-cons lines n line within)
@@ -84,14 +83,14 @@ numbered lines i n line (within, is) =
     (few, (let e = ap (λ p. p.0) both in omega arith), ap (λ p. p.1) both)
 
 -- the line after those that are answered ends the run
-pub script_ended : (calls : Calls) (lines : List (List ℕ)) (n place : ℕ) (line : List ℕ) (old mid new : Option (List ℕ)) (failure : Failure)
+pub script_ended : (lines : List (List ℕ)) (n place : ℕ) (line : List ℕ) (old mid new : Option (List ℕ)) (failure : Failure)
     → n < length lines → place ≡ n → line ≡ get_or lines n line
-    → Written calls (take n lines) old mid → LineWritten calls (place + 1) line mid new (Err failure) → ScriptWritten calls lines old new (Err failure)
-script_ended calls lines n place line old mid new TooManyArguments within at is h k = absurd k
-script_ended calls lines n place line old mid new (BadFile path error) within at is h k = absurd k
-script_ended calls lines n place line old mid new (BadInput error) within at is h k = absurd k
-script_ended calls lines n place line old mid new (BadLine number reason) within at is (said, h, f) (count, bad, kept) =
+    → Written (take n lines) old mid → LineWritten (place + 1) line mid new (Err failure) → ScriptWritten lines old new (Err failure)
+script_ended lines n place line old mid new TooManyArguments within at is h k = absurd k
+script_ended lines n place line old mid new (BadFile path error) within at is h k = absurd k
+script_ended lines n place line old mid new (BadInput error) within at is h k = absurd k
+script_ended lines n place line old mid new (BadLine number reason) within at is (said, h, f) (count, bad, kept) =
     let cut = sym (take-append-drop n lines) ∙ ap (λ l. take n lines ++ l) (drop_one lines n line within ∙ ap (λ l. l ∷ drop (n + 1) lines) (sym is)) in
     let long : length (take n lines) ≡ n = omega (arith, length-take-le n lines (omega arith)) in
     (take n lines, line, drop (n + 1) lines, cut, omega arith, bad, (said, h, subst (Appends old new) (append-nil said) (appends_both old mid new said [] f kept)))
-script_ended calls lines n place line old mid new (Io error) within at is h k = tt
+script_ended lines n place line old mid new (Io error) within at is h k = tt

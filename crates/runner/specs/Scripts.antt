@@ -10,7 +10,6 @@ use Rattle.script.specs.Complaints.{complaint}
 use Rattle.script.specs.Lines.{LineRead}
 use Rattle.script.specs.Words.{Begins}
 use Rattle.script.specs.declared.call.Call.{Call}
-use Rattle.script.specs.declared.calls.Calls.{Calls}
 use Rattle.script.specs.declared.error.LineError.{LineError}
 use Rattle.answers.specs.Answers.{CallAnswered}
 use Rattle.answers.specs.Texts.{reply_said}
@@ -38,41 +37,41 @@ CallSaid line call said =
     × (said ≡ spaced ws ++ (codes ": " ++ (answer_said answer ++ (10 ∷ []))))
 
 -- what goes to a line: nothing where it makes no call
-abbrev pub LineSaid : Calls → List ℕ → List ℕ → Type 0
-LineSaid calls line said =
-    (LineRead calls line (Ok None) × (said ≡ []))
-    ⊎ ((call : Call) × LineRead calls line (Ok (Some call)) × CallSaid line call said)
+abbrev pub LineSaid : List ℕ → List ℕ → Type 0
+LineSaid line said =
+    (LineRead line (Ok None) × (said ≡ []))
+    ⊎ ((call : Call) × LineRead line (Ok (Some call)) × CallSaid line call said)
 
 -- what goes to lines, one after another
-abbrev pub Said : Calls → List (List ℕ) → List ℕ → Type 0
-Said calls [] said = said ≡ []
-Said calls (line ∷ lines) said =
-    (first : List ℕ) × (others : List ℕ) × (said ≡ first ++ others) × LineSaid calls line first × Said calls lines others
+abbrev pub Said : List (List ℕ) → List ℕ → Type 0
+Said [] said = said ≡ []
+Said (line ∷ lines) said =
+    (first : List ℕ) × (others : List ℕ) × (said ≡ first ++ others) × LineSaid line first × Said lines others
 
 -- the line is no call, and the reason says what is wrong with it
-abbrev pub IsBad : Calls → List ℕ → List ℕ → Type 0
-IsBad calls line reason = (error : LineError) × LineRead calls line (Err error) × (reason ≡ complaint error)
+abbrev pub IsBad : List ℕ → List ℕ → Type 0
+IsBad line reason = (error : LineError) × LineRead line (Err error) × (reason ≡ complaint error)
 
 -- old grows to new by what goes to the lines
-abbrev pub Written : Calls → List (List ℕ) → Option (List ℕ) → Option (List ℕ) → Type 0
-Written calls lines old new = (said : List ℕ) × Said calls lines said × Appends old new said
+abbrev pub Written : List (List ℕ) → Option (List ℕ) → Option (List ℕ) → Type 0
+Written lines old new = (said : List ℕ) × Said lines said × Appends old new said
 
 -- a line is answered, or it is bad and nothing is written
-abbrev pub LineWritten : Calls → ℕ → List ℕ → Option (List ℕ) → Option (List ℕ) → Result (Unit {0}) Failure → Type 0
-LineWritten calls n line old new (Ok u) = Written calls (line ∷ []) old new
-LineWritten calls n line old new (Err TooManyArguments) = ⊥
-LineWritten calls n line old new (Err (BadFile path error)) = ⊥
-LineWritten calls n line old new (Err (BadInput error)) = ⊥
-LineWritten calls n line old new (Err (BadLine number reason)) = (number ≡ n) × IsBad calls line (string_bytes reason) × Appends old new []
-LineWritten calls n line old new (Err (Io error)) = Unit {0}
+abbrev pub LineWritten : ℕ → List ℕ → Option (List ℕ) → Option (List ℕ) → Result (Unit {0}) Failure → Type 0
+LineWritten n line old new (Ok u) = Written (line ∷ []) old new
+LineWritten n line old new (Err TooManyArguments) = ⊥
+LineWritten n line old new (Err (BadFile path error)) = ⊥
+LineWritten n line old new (Err (BadInput error)) = ⊥
+LineWritten n line old new (Err (BadLine number reason)) = (number ≡ n) × IsBad line (string_bytes reason) × Appends old new []
+LineWritten n line old new (Err (Io error)) = Unit {0}
 
 -- the lines are all answered, or those before the first bad one are, which the failure numbers from 1
-abbrev pub ScriptWritten : Calls → List (List ℕ) → Option (List ℕ) → Option (List ℕ) → Result (Unit {0}) Failure → Type 0
-ScriptWritten calls lines old new (Ok u) = Written calls lines old new
-ScriptWritten calls lines old new (Err TooManyArguments) = ⊥
-ScriptWritten calls lines old new (Err (BadFile path error)) = ⊥
-ScriptWritten calls lines old new (Err (BadInput error)) = ⊥
-ScriptWritten calls lines old new (Err (BadLine number reason)) =
+abbrev pub ScriptWritten : List (List ℕ) → Option (List ℕ) → Option (List ℕ) → Result (Unit {0}) Failure → Type 0
+ScriptWritten lines old new (Ok u) = Written lines old new
+ScriptWritten lines old new (Err TooManyArguments) = ⊥
+ScriptWritten lines old new (Err (BadFile path error)) = ⊥
+ScriptWritten lines old new (Err (BadInput error)) = ⊥
+ScriptWritten lines old new (Err (BadLine number reason)) =
     (before : List (List ℕ)) × (line : List ℕ) × (after : List (List ℕ)) × (lines ≡ before ++ (line ∷ after))
-    × (number ≡ length before + 1) × IsBad calls line (string_bytes reason) × Written calls before old new
-ScriptWritten calls lines old new (Err (Io error)) = Unit {0}
+    × (number ≡ length before + 1) × IsBad line (string_bytes reason) × Written before old new
+ScriptWritten lines old new (Err (Io error)) = Unit {0}

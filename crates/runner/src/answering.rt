@@ -6,22 +6,16 @@ use crate::failure::Failure;
 use crate::writing::{write_answer, write_words};
 use answers::answer::answer_call;
 use script::call::Call;
-use script::calls::Calls;
 use std::alloc::Global;
 use std::io;
 
-/// Answers the lines of a script in turn; one that is no call ends the run. The memory is
-/// handed in beside what it serves, as in the library.
-pub(crate) fn answer_lines<W: io::Write>(
-    heap: Global,
-    calls: Calls,
-    text: &str,
-    out: &mut W,
-) -> Result<(), Failure>
-    ensures { ScriptWritten calls (lines text.now) (W.contents out.old) (W.contents out.new) result }
+/// Answers the calls of a script in turn, each on a line of its own; a line that is no call
+/// ends the run. The memory is handed in beside what it serves, as in the library.
+pub fn answer_script<W: io::Write>(heap: Global, text: &str, out: &mut W) -> Result<(), Failure>
+    ensures { ScriptWritten (lines text.now) (W.contents out.old) (W.contents out.new) result }
 {
     for (place, line) in text.lines().enumerate() {
-        answer_line(heap, calls, place + 1, line, out)?;
+        answer_line(heap, place + 1, line, out)?;
     }
     Ok(())
 }
@@ -29,14 +23,13 @@ pub(crate) fn answer_lines<W: io::Write>(
 // Answers the call of one line, if it makes one.
 fn answer_line<W: io::Write>(
     heap: Global,
-    calls: Calls,
     number: usize,
     line: &str,
     out: &mut W,
 ) -> Result<(), Failure>
-    ensures { LineWritten calls number line.now (W.contents out.old) (W.contents out.new) result }
+    ensures { LineWritten number line.now (W.contents out.old) (W.contents out.new) result }
 {
-    match Call::read(heap, calls, line) {
+    match Call::read(heap, line) {
         Ok(None) => Ok(()),
         Ok(Some(call)) => {
             write_words(out, line)?;

@@ -1,31 +1,25 @@
-//! A run of a program over a script: it is read from a file or from standard input
-//! (`program`), an answer is written to each of its calls (`answering`, `writing`), and
-//! what ends a run early is said, with a status (`failure`).
+//! A run over a script: it is read from a file or from standard input (`run`), an answer is
+//! written to each of its calls (`answering`, `writing`), and what ends a run early is said,
+//! with a status (`failure`).
 
 #![tactic(auto)]
 
-mod answering;
+pub mod answering;
 pub mod failure;
-pub mod program;
+pub mod run;
 mod writing;
 
 #[cfg(test)]
 mod tests {
+    use crate::answering::answer_script;
     use crate::failure::Failure;
-    use crate::program::Program;
-    use script::calls::Calls;
     use std::test::Fail;
-
-    fn taking(calls: Calls) -> Program {
-        Program { usage: "", calls }
-    }
 
     #[test]
     fn a_whole_script(rt: HostRuntime) -> Result<(), Fail> {
         let mut out = Vec::new(rt.alloc());
         let text = "# a comment\n check  1:0:0:0\n\nask after 0 1 : 1:0:0:0\n";
-        let program = taking(Calls::CheckAndAsk);
-        let outcome = program.answer_script(rt.alloc(), text, &mut out);
+        let outcome = answer_script(rt.alloc(), text, &mut out);
         outcome.ok().ok_or("ended early")?;
         let answers =
             "check 1:0:0:0: 1 parts, symbols {0}, empty no, conflict-free\nask after 0 1 : 1:0:0:0: no\n";
@@ -36,11 +30,11 @@ mod tests {
     #[test]
     fn a_line_that_is_no_call(rt: HostRuntime) -> Result<(), Fail> {
         let mut out = Vec::new(rt.alloc());
-        let text = "check\nask after 0 1 : 1:0:0:0\ncheck 1:0:0:0\n";
-        match taking(Calls::CheckOnly).answer_script(rt.alloc(), text, &mut out) {
+        let text = "check\nchek 1:0:0:0\ncheck 1:0:0:0\n";
+        match answer_script(rt.alloc(), text, &mut out) {
             Err(Failure::BadLine { number, reason }) => {
                 assert_eq!(rt; number, 2);
-                assert_eq!(rt; reason.as_str(), "no such call: ask (calls: check)");
+                assert_eq!(rt; reason.as_str(), "no such call: chek (calls: check, ask)");
             }
             _ => return Err("no bad line".into()),
         }

@@ -1,7 +1,6 @@
 -- What is said of a line that is no call. Assumes nothing.
 use Rattle.std.specs.Prelude.{ℕ, List, ◌++◌, Some, None, codes, decimal, Option}
 use Rattle.std.specs.Borrow.{Bor}
-use Rattle.script.specs.Calls.{calls_said}
 use Rattle.script.specs.declared.error.LineError.{LineError}
 use Rattle.script.specs.declared.error.LineError.TheVariants.{NoSuchCall, NoSuchQuestion, NotSet, NotSymbol, NotColon, NotPart, Memory}
 
@@ -11,7 +10,7 @@ word_or_end None = codes "the end of the line"
 word_or_end (Some word) = word.now
 
 abbrev pub complaint : LineError → List ℕ
-complaint (NoSuchCall name calls) = codes "no such call: " ++ (name.now ++ (codes " (calls: " ++ (calls_said calls ++ codes ")")))
+complaint (NoSuchCall name) = codes "no such call: " ++ (name.now ++ codes " (calls: check, ask)")
 complaint (NoSuchQuestion name) = codes "expected a question (every, occurs, brings, after), and not: " ++ word_or_end name
 complaint (NotSet word) = codes "expected a set of symbols, as 0,1 or -, and not: " ++ word_or_end word
 complaint (NotSymbol word) = codes "expected a symbol, and not: " ++ word_or_end word

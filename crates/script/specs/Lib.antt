@@ -1,4 +1,3 @@
-pub mod Calls
 pub mod Complaints
 pub mod Lines
 pub mod Questions

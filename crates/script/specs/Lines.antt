@@ -2,10 +2,8 @@
 use Rattle.std.specs.Prelude.{◌≡◌, ℕ, ◌+◌, ◌⊎◌, List, [], ◌∷◌, ◌++◌, map, length, Some, None, Ok, Err, vec_items, codes, Option, Result, ◌≢◌, slice_index}
 use Rattle.std.specs.Borrow.{Bor}
 use Rattle.parts.specs.declared.part.Part.{Part}
-use Rattle.script.specs.Calls.{HasAsk}
 use Rattle.script.specs.declared.call.Call.{Call}
 use Rattle.script.specs.declared.call.Call.TheVariants.{Check, Ask}
-use Rattle.script.specs.declared.calls.Calls.{Calls}
 use Rattle.script.specs.declared.error.LineError.{LineError}
 use Rattle.script.specs.declared.error.LineError.TheVariants.{NoSuchCall, NotPart, Memory}
 use Rattle.script.specs.declared.question.Question.{Question}
@@ -50,21 +48,21 @@ NotAsk bs e =
     NoQuestion bs e ⊎
     (((q : Question) × (mid : List ℕ) × Asked bs q mid × NoColon mid e) ⊎ ((q : Question) × (rest : List ℕ) × Put bs q rest × NotParts rest e))
 
--- of these calls, the one that a name and the words of bs after it say; `ask` is one only where the calls have it
-abbrev pub CallRead : Calls → List ℕ → List ℕ → Result Call LineError → Type 0
-CallRead calls name bs (Ok (Check parts)) = (name ≡ codes "check") × AllParts bs (vec_items parts)
-CallRead calls name bs (Ok (Ask q parts)) = HasAsk calls × (name ≡ codes "ask") × AllAsk bs q (vec_items parts)
-CallRead calls name bs (Err e) =
+-- the call that a name and the words of bs after it say
+abbrev pub CallRead : List ℕ → List ℕ → Result Call LineError → Type 0
+CallRead name bs (Ok (Check parts)) = (name ≡ codes "check") × AllParts bs (vec_items parts)
+CallRead name bs (Ok (Ask q parts)) = (name ≡ codes "ask") × AllAsk bs q (vec_items parts)
+CallRead name bs (Err e) =
     ((name ≡ codes "check") × NotParts bs e) ⊎
-    ((HasAsk calls × (name ≡ codes "ask") × NotAsk bs e) ⊎
-    ((w : Bor (List ℕ)) × (e ≡ NoSuchCall w calls) × (name ≡ w.now) × (name ≢ codes "check") × (HasAsk calls → name ≢ codes "ask")))
+    (((name ≡ codes "ask") × NotAsk bs e) ⊎
+    ((w : Bor (List ℕ)) × (e ≡ NoSuchCall w) × (name ≡ w.now) × (name ≢ codes "check") × (name ≢ codes "ask")))
 
 -- bs is no comment, and its first word and the words after it say r; 35 is '#'
-abbrev pub Called : Calls → List ℕ → Result Call LineError → Type 0
-Called calls bs r = (slice_index bs 0 ≢ 35) × ((name : List ℕ) × (rest : List ℕ) × First bs name rest × CallRead calls name rest r)
+abbrev pub Called : List ℕ → Result Call LineError → Type 0
+Called bs r = (slice_index bs 0 ≢ 35) × ((name : List ℕ) × (rest : List ℕ) × First bs name rest × CallRead name rest r)
 
 -- what a line says: nothing, if it is a comment or has no word
-abbrev pub LineRead : Calls → List ℕ → Result (Option Call) LineError → Type 0
-LineRead calls bs (Ok None) = (slice_index bs 0 ≡ 35) ⊎ NoCharPasses is_not_whitespace bs
-LineRead calls bs (Ok (Some call)) = Called calls bs (Ok call)
-LineRead calls bs (Err e) = Called calls bs (Err e)
+abbrev pub LineRead : List ℕ → Result (Option Call) LineError → Type 0
+LineRead bs (Ok None) = (slice_index bs 0 ≡ 35) ⊎ NoCharPasses is_not_whitespace bs
+LineRead bs (Ok (Some call)) = Called bs (Ok call)
+LineRead bs (Err e) = Called bs (Err e)

@@ -2,15 +2,14 @@
 ghost use Rattle.std.specs.Prelude.{MatchResult};
 ghost use Rattle.script.specs.Lines.{AllAsk, NotAsk, CallRead, LineRead};
 
-use crate::calls::Calls;
 use crate::error::LineError;
 use crate::question::Question;
 use crate::reader::Reader;
 use parts::part::Part;
 use std::alloc::Global;
 
-/// A call of a script. A call more is a variant here, a name in `Calls`, an arm in `named` with
-/// what reads its words, and an arm in `answer_call` of `answers`.
+/// A call of a script. A call more is a variant here, an arm in `named` with what reads
+/// its words, a name in the text of `NoSuchCall`, and an arm in `answer_call` of `answers`.
 #[derive(Drop)]
 pub enum Call {
     /// Check parts as a model.
@@ -25,13 +24,9 @@ pub enum Call {
 }
 
 impl Call {
-    /// Of these calls, the one that a line makes; a comment and a line of blanks make none.
-    pub fn read<'a>(
-        heap: Global,
-        calls: Calls,
-        line: &'a str,
-    ) -> Result<Option<Call>, LineError<'a>>
-        ensures { LineRead calls line.now result }
+    /// The call that a line makes; a comment and a line of blanks make none.
+    pub fn read<'a>(heap: Global, line: &'a str) -> Result<Option<Call>, LineError<'a>>
+        ensures { LineRead line.now result }
     {
         if line.starts_with('#') {
             return Ok(None);
@@ -40,12 +35,12 @@ impl Call {
         let Some(name) = reader.next_word() else {
             return Ok(None);
         };
-        Ok(Some(Call::named(calls, name, reader)?))
+        Ok(Some(Call::named(name, reader)?))
     }
 
     /// The call of a name and the words after it.
-    fn named<'a>(calls: Calls, name: &'a str, reader: Reader<'a>) -> Result<Call, LineError<'a>>
-        ensures { CallRead calls name.now reader.entry result }
+    fn named<'a>(name: &'a str, reader: Reader<'a>) -> Result<Call, LineError<'a>>
+        ensures { CallRead name.now reader.entry result }
     {
         // a match and no table, which is no plainer: each call reads other words
         match name {
@@ -53,11 +48,11 @@ impl Call {
                 let parts = reader.parts()?;
                 Ok(Call::Check { parts })
             }
-            "ask" if calls.has_ask() => {
+            "ask" => {
                 let (question, parts) = question_and_parts(reader)?;
                 Ok(Call::Ask { question, parts })
             }
-            _ => Err(LineError::NoSuchCall { name, calls }),
+            _ => Err(LineError::NoSuchCall { name }),
         }
     }
 }

@@ -3,15 +3,14 @@ ghost use Rattle.std.specs.Prelude.{◌≡◌, Some};
 ghost use Rattle.script.specs.Complaints.{complaint, word_or_end};
 ghost use Rattle.script.specs.declared.error.LineError.TheVariants.{Memory};
 
-use crate::calls::Calls;
 use std::alloc::AllocFailed;
 use std::fmt;
 
 /// Why a line is no call. A word is `None` where the line ends before it.
 #[derive(Drop)]
 pub enum LineError<'a> {
-    /// No call that the program takes has this name.
-    NoSuchCall { name: &'a str, calls: Calls },
+    /// No call has this name.
+    NoSuchCall { name: &'a str },
     /// No question has this name.
     NoSuchQuestion { name: Option<&'a str> },
     /// A word is not written as a set.
@@ -39,8 +38,8 @@ impl fmt::Display for LineError<'_> {
 
     fn fmt<W: fmt::Write>(&self, f: &mut fmt::Formatter<W>) -> fmt::Result {
         match self {
-            LineError::NoSuchCall { name, calls } => {
-                write!(f, "no such call: {name} (calls: {calls})")
+            LineError::NoSuchCall { name } => {
+                write!(f, "no such call: {name} (calls: check, ask)")
             }
             LineError::NoSuchQuestion { name } => {
                 let name = or_end(*name);

@@ -1,12 +1,10 @@
-//! The calls of a script: which of them a program takes (`calls`), what a word
-//! writes (`read`), the words of a line in turn (`reader`), the question that
-//! they ask (`question`), which call a line makes (`call`), or what is wrong
-//! with it (`error`).
+//! The calls of a script: what a word writes (`read`), the words of a line in turn
+//! (`reader`), the question that they ask (`question`), which call a line makes
+//! (`call`), or what is wrong with it (`error`).
 
 #![tactic(auto)]
 
 pub mod call;
-pub mod calls;
 pub mod error;
 pub mod question;
 pub mod read;

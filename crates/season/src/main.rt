@@ -1,13 +1,9 @@
-//! Answers the calls of a script, one to a line: `check` alone.
+//! Answers the calls of a script, one to a line: `check` and `ask`.
 
 #![tactic(auto)]
 
-ghost use Rattle.std.specs.Prelude.{◌≡◌};
-ghost use Rattle.script.specs.declared.calls.Calls.TheVariants.{CheckOnly};
-
 use runner::failure::finish;
-use runner::program::Program;
-use script::calls::Calls;
+use runner::run::run;
 use std::process::ExitCode;
 
 const USAGE: &str = "\
@@ -18,25 +14,26 @@ prints an answer for each call. A script has one call to a line; empty lines
 and lines that begin with # are passed over.
 
 calls:
-  check PART..    say whether the parts are a model, and what it takes;
-                  a part is written kind:symbol:low:high in decimal
+  check PART..            say whether the parts are a model, and what it takes;
+                          a part is written kind:symbol:low:high in decimal
+  ask QUESTION : PART..   answer a question about all messages of the model
 
-example:
+questions:
+  every SET               has every message a symbol of the set, and has every
+                          nonempty one; a set is written 0,1 or, if empty, -
+  occurs SYMBOL           how often does it occur in a message that has it, at
+                          the fewest, and in any message, at the most
+  brings SET SET          has every message with a symbol of the first set one
+                          of the second
+  after SYMBOL SYMBOL     has some message the first symbol after the second
+
+examples:
   check 1:0:0:0 1:1:0:0 3:0:0:0
+  ask after 0 1 : 1:0:0:0 1:1:0:0 3:0:0:0
 
 A line that is no call ends the run with a message and status 1.
 ";
 
 fn main(rt: HostRuntime) -> ExitCode {
-    finish(&rt, program().run(&rt))
-}
-
-// What this program has of its own.
-fn program() -> Program
-    ensures { result.calls ≡ CheckOnly }
-{
-    Program {
-        usage: USAGE,
-        calls: Calls::CheckOnly,
-    }
+    finish(&rt, run(&rt, USAGE))
 }
