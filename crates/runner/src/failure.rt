@@ -1,10 +1,7 @@
-//! Why a run ended early, what is said of it, and the status that a run ends with.
-ghost use Rattle.std.specs.Prelude.{◌≡◌, OnOk, OnErr};
-ghost use Rattle.std.specs.Process.{exit_status};
+//! Why a run ended early, and what is said of it.
 ghost use Rattle.runner.specs.Failures.{failure_said, IsIo};
 
 use std::alloc::AllocError;
-use std::process::ExitCode;
 use std::{fmt, io};
 
 /// Why a run ended early. The reason of a bad line is text, since it outlives the script.
@@ -52,21 +49,6 @@ impl fmt::Display for Failure {
             }
             Failure::BadLine { number, reason } => write!(f, "line {number}: {reason}"),
             Failure::Io { error } => write!(f, "{error}"),
-        }
-    }
-}
-
-/// Says on standard error why a run ended early, if it did, and gives the status: 1 then, else 0.
-pub fn finish(rt: &HostRuntime, outcome: Result<(), Failure>) -> ExitCode
-    ensures whole { OnOk outcome (exit_status result ≡ 0) }
-    ensures early { OnErr outcome (exit_status result ≡ 1) }
-{
-    match outcome {
-        Ok(()) => ExitCode::SUCCESS,
-        Err(failure) => {
-            // a message that cannot be written changes nothing in the status
-            let _ = eprintln!(rt; "{failure}");
-            ExitCode::FAILURE
         }
     }
 }

@@ -1,6 +1,5 @@
 //! A run over a script: it is read from a file or from standard input (`run`), an answer is
-//! written to each of its calls (`answering`, `writing`), and what ends a run early is said,
-//! with a status (`failure`).
+//! written to each of its calls (`answering`, `writing`), or it ends early (`failure`).
 
 #![tactic(auto)]
 

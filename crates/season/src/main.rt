@@ -2,7 +2,10 @@
 
 #![tactic(auto)]
 
-use runner::failure::finish;
+ghost use Rattle.std.specs.Prelude.{◌≡◌, OnOk, OnErr};
+ghost use Rattle.std.specs.Process.{exit_status};
+
+use runner::failure::Failure;
 use runner::run::run;
 use std::process::ExitCode;
 
@@ -36,4 +39,19 @@ A line that is no call ends the run with a message and status 1.
 
 fn main(rt: HostRuntime) -> ExitCode {
     finish(&rt, run(&rt, USAGE))
+}
+
+/// Says on standard error why a run ended early, if it did, and gives the status: 1 then, else 0.
+fn finish(rt: &HostRuntime, outcome: Result<(), Failure>) -> ExitCode
+    ensures whole { OnOk outcome (exit_status result ≡ 0) }
+    ensures early { OnErr outcome (exit_status result ≡ 1) }
+{
+    match outcome {
+        Ok(()) => ExitCode::SUCCESS,
+        Err(failure) => {
+            // a message that cannot be written changes nothing in the status
+            let _ = eprintln!(rt; "{failure}");
+            ExitCode::FAILURE
+        }
+    }
 }
