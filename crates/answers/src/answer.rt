@@ -11,7 +11,7 @@ use script::call::Call;
 pub fn answer_call(call: &Call) -> Result<Reply, Refusal>
     ensures { CallAnswered call.now result }
 {
-    // a match and no table, which is no plainer: each call holds other things
+    // no table: each call holds other things
     match call {
         Call::Check { parts } => {
             let model = check(parts.as_slice())?;

@@ -22,7 +22,7 @@ pub struct Facts {
 }
 
 impl Facts {
-    /// What is said of the model. No `From`, which is no plainer: much is asked of the model.
+    /// What is said of the model. No `From`: much is asked of the model.
     pub(crate) fn of(model: &Model<'_>) -> Facts
         ensures { FactsOf (parts_of model.now) (tree_of model.now) result }
     {

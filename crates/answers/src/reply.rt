@@ -31,12 +31,11 @@ pub enum Reply {
 }
 
 impl Reply {
-    /// The reply of the model to the question. No `From`, which is no plainer: it takes a
-    /// question too, and asks the library.
+    /// The reply of the model to the question. No `From`: it takes a question too.
     pub fn of(model: &Model<'_>, question: Question) -> Reply
         ensures { Replied question (tree_of model.now) result }
     {
-        // a match and no table, which is no plainer: each question asks another summary
+        // no table: each question asks another summary
         match question {
             Question::Every { set } => {
                 let (every, nonempty) = every_of(model, set);

@@ -2,7 +2,7 @@
 ghost use Rattle.std.specs.Prelude.{◌≡◌};
 ghost use Rattle.answers.specs.Texts.{yes_or_no_of};
 
-/// `yes` or `no`. No `Display`, which is no plainer: a `bool` prints as true or false.
+/// `yes` or `no`; a `bool` prints as true or false.
 pub fn yes_or_no(answer: bool) -> &'static str
     ensures { result.now ≡ yes_or_no_of answer }
 {

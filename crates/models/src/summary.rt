@@ -12,8 +12,8 @@ use parts::part::Repeats;
 /// messages, and owes for each kind that true values taken give a true value.
 /// The tree made is known to be well formed, so each tree taken has some
 /// message, and the one that `nonempty` takes a nonempty one.
-// Where two kinds get their values in one way, they still have a method each: no plainer
-// form joins them, since each kind has a law of its own.
+// Where two kinds get their values in one way, they still have a method each, since each
+// kind has a law of its own.
 pub trait Summary {
     type Value: Copy;
 

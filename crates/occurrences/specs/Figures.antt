@@ -1,4 +1,4 @@
--- What is known of a figure, and the fewest and most occurrences of a symbol. Assumes nothing.
+-- What a figure says of a number, and the fewest and most occurrences of a symbol. Assumes nothing.
 use Rattle.std.specs.Prelude.{◌≡◌, ℕ, ◌+◌, ◌≤◌, min, Bool, true, false, cond, Some, None, Option, nat_le}
 use Rattle.parts.specs.Sets.{only}
 use Rattle.models.specs.Messages.{Message, Occurs, occurrences}

@@ -42,8 +42,8 @@ impl From<u32> for Figure {
     }
 }
 
-// Each promise is of figures that are known of some number: an enum can have no
-// invariant, and a struct round it would be no plainer.
+// Each promise is of figures that are known of some number, since an enum can have no
+// invariant.
 impl Figure {
     pub(crate) fn is_zero(self) -> bool
         ensures { (a : ℕ) → self ≡ figure a → Decides result (a ≡ 0) }

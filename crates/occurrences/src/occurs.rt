@@ -137,8 +137,7 @@ fn fewest_of_both(left: Figure, right: Figure, every_left: bool, every_right: bo
     }
 }
 
-// The match of `fewest_of_either`, with another figure where both sides have one: a
-// function that takes it as a closure would be no plainer.
+// As `fewest_of_either`, with another figure where both sides have one.
 fn fewest_side_by_side(left: Occurring, right: Occurring) -> Option<Figure>
     ensures { (s : ℕ) (t u : Tree) → Formed t → Formed u → OccurringIs s t left → OccurringIs s u right → FewestIs s (sequence_tree t u) result × FewestIs s (interleave_tree t u) result }
 {

@@ -19,8 +19,8 @@ pub struct SymbolSet {
 impl SymbolSet {
     pub const EMPTY: SymbolSet = SymbolSet { bits: 0 };
 
-    /// The set of one symbol, empty where that is above 63. No `From<u32>`, which is
-    /// no plainer: it would read as the set with these bits.
+    /// The set of one symbol, empty where that is above 63. No `From<u32>`:
+    /// it would read as the set with these bits.
     pub fn of(symbol: u32) -> SymbolSet
         ensures { result.bits ≡ (if nat_le symbol 63 then 2 ^ symbol else 0) }
     {

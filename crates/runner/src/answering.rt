@@ -10,7 +10,7 @@ use std::alloc::Global;
 use std::io;
 
 /// Answers the calls of a script in turn, each on a line of its own; a line that is no call
-/// ends the run. The memory is handed in beside what it serves, as in the library.
+/// ends the run. The memory is handed in beside what it serves, as in the standard library.
 pub fn answer_script<W: io::Write>(heap: Global, text: &str, out: &mut W) -> Result<(), Failure>
     ensures { ScriptWritten (lines text.now) (W.contents out.old) (W.contents out.new) result }
 {

@@ -8,8 +8,8 @@ use parts::refusal::Refusal;
 use std::io;
 
 /// Writes the words of a line, with one space between two. No `Display`, which promises
-/// its text as a function: the library tells the words of a text by a relation. (The loop
-/// is that of a set's `Display`, over another trait of writing.)
+/// its text as a function: the standard library tells the words of a text by a relation.
+/// (The loop is that of a set's `Display`, over another trait of writing.)
 pub(crate) fn write_words<W: io::Write>(out: &mut W, line: &str) -> io::Result<()>
     ensures { OnOk result ((ws : List (List ℕ)) × WordsAre line.now ws × Appends (W.contents out.old) (W.contents out.new) (spaced ws)) }
 {

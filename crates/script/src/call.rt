@@ -9,7 +9,9 @@ use parts::part::Part;
 use std::alloc::Global;
 
 /// A call of a script. A call more is a variant here, an arm in `named` with what reads
-/// its words, a name in the text of `NoSuchCall`, and an arm in `answer_call` of `answers`.
+/// its words, a name in the text of `NoSuchCall` and in the program's help, and an arm in
+/// `answer_call` of `answers`; and each of these has its line in a definition: `CallRead`,
+/// `complaint`, `CallAnswered`.
 #[derive(Drop)]
 pub enum Call {
     /// Check parts as a model.
@@ -42,7 +44,7 @@ impl Call {
     fn named<'a>(name: &'a str, reader: Reader<'a>) -> Result<Call, LineError<'a>>
         ensures { CallRead name.now reader.entry result }
     {
-        // a match and no table, which is no plainer: each call reads other words
+        // no table: each call reads other words
         match name {
             "check" => {
                 let parts = reader.parts()?;

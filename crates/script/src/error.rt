@@ -68,8 +68,7 @@ impl fmt::Display for LineError<'_> {
     }
 }
 
-/// A word, or what stands in its place where the line ends before it. No `Display`, which is
-/// no plainer: an `Option` has no text of its own.
+/// A word, or what stands in its place where the line ends before it.
 fn or_end(word: Option<&str>) -> &str
     ensures { result.now ≡ word_or_end word.entry }
 {

@@ -39,7 +39,7 @@ impl<'a> Reader<'a> {
         ensures { QuestionNext self.old result self.new }
     {
         let name = self.next_word();
-        // a match and no table, which is no plainer: each question reads other words
+        // no table: each question reads other words
         match name {
             Some("every") => {
                 let set = self.next_set()?;

@@ -11,14 +11,17 @@ use std::process::ExitCode;
 
 const USAGE: &str = "\
 usage: season [FILE]
+       season --help
 
 Reads a script from FILE, or from standard input where there is none, and
 prints an answer for each call. A script has one call to a line; empty lines
 and lines that begin with # are passed over.
 
 calls:
-  check PART..            say whether the parts are a model, and what it takes;
-                          a part is written kind:symbol:low:high in decimal
+  check PART..            say whether the parts are a model, and its symbols,
+                          whether the empty message fits, and its first
+                          conflict, or where the parts fail and why; a part
+                          is written kind:symbol:low:high in decimal
   ask QUESTION : PART..   answer a question about all messages of the model
 
 questions:

@@ -90,8 +90,8 @@ fn either(left: Order, right: Order) -> Order
 }
 
 /// Whether some message of the model has the first symbol after the second,
-/// beside whether some message has each. It takes the symbols and not an `After`,
-/// which would be no plainer: a caller has symbols.
+/// beside whether some message has each. It takes the symbols and not an `After`:
+/// a caller has symbols.
 pub fn order_of(model: &Model<'_>, first: u32, second: u32) -> Order
     ensures { OrderIs first second (tree_of model.now) result }
 {

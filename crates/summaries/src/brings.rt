@@ -93,8 +93,8 @@ fn side_by_side(left: Brought, right: Brought) -> bool
 }
 
 /// Whether in the model a symbol of the first set always brings one of the
-/// second, beside the pair for the second. It takes the sets and not a `Brings`,
-/// which would be no plainer: a caller has sets.
+/// second, beside the pair for the second. It takes the sets and not a `Brings`:
+/// a caller has sets.
 pub fn brings_of(model: &Model<'_>, first: SymbolSet, second: SymbolSet) -> Brought
     ensures { BroughtIs first.bits second.bits (tree_of model.now) result }
 {

@@ -54,8 +54,8 @@ impl Summary for Every {
     }
 }
 
-// A message of two has none of the set's symbols only if neither side has; it
-// is nonempty if one of the sides is.
+// A message put together of one from each side has none of the set's symbols only if
+// neither has; it is nonempty if one of them is.
 fn side_by_side(left: (bool, bool), right: (bool, bool)) -> (bool, bool)
     ensures { result ≡ ((left.0 || right.0), ((left.1 || right.0) && (left.0 || right.1))) }
 {

@@ -49,7 +49,7 @@ pub fn first_conflict(model: &Model<'_>) -> Option<usize>
     let mut seen = SymbolSet::EMPTY;
     // what a count takes stands right before it
     let mut after_symbol = false;
-    // the walk of `work_up`, with places; an iterator of forms would be no plainer
+    // the walk of `work_up`, with places
     for (place, part) in model.parts().iter().enumerate() {
         let form = Form::try_from(*part).ok();
         if clashes(form, seen, after_symbol) {
