@@ -1,0 +1,25 @@
+-- The first of a list of rules of which something holds. Assumes nothing.
+use Rattle.std.proofs.Common.{◌≡◌, ◌⊎◌, List, [], ◌∷◌, ◌++◌, Some, None, Option, sym, ◌∙◌, inl, inr}
+use Rattle.models.proofs.Unlike.{some-none}
+use Rattle.rules.specs.Rules.{Rule, FirstIs, OneAnswer}
+use Rattle.rules.specs.declared.verdict.Verdict.{Verdict}
+
+module _ (P : Rule → Type 0) where
+  -- of two lists one after the other: the first in the one, or else in the other
+  pub first_there : (xs ys : List Rule) (a : Option Verdict) → (a ≡ None → ⊥) → FirstIs P xs a → FirstIs P (xs ++ ys) a
+  first_there [] ys a some e = absurd (some e)
+  first_there (x ∷ xs) ys a some (inl found) = inl found
+  first_there (x ∷ xs) ys a some (inr (kept, more)) = inr (kept, first_there xs ys a some more)
+
+  pub first_after : (xs ys : List Rule) (a b : Option Verdict) → a ≡ None → FirstIs P xs a → FirstIs P ys b → FirstIs P (xs ++ ys) b
+  first_after [] ys a b none e f = f
+  first_after (x ∷ xs) ys a b none (inl (broken, e)) f = absurd (some-none x.verdict (sym e ∙ none))
+  first_after (x ∷ xs) ys a b none (inr (kept, more)) f = inr (kept, first_after xs ys a b none more f)
+
+  -- there is one answer only
+  pub one_answer : (xs : List Rule) → OneAnswer P xs
+  one_answer [] a b e f = e ∙ sym f
+  one_answer (x ∷ xs) a b (inl (p, e)) (inl (q, f)) = e ∙ sym f
+  one_answer (x ∷ xs) a b (inl (p, e)) (inr (q, f)) = absurd (q p)
+  one_answer (x ∷ xs) a b (inr (p, e)) (inl (q, f)) = absurd (p q)
+  one_answer (x ∷ xs) a b (inr (p, e)) (inr (q, f)) = one_answer xs a b e f

@@ -1,0 +1,9 @@
+//! Rules of messages: what an answer names (`verdict`), who answers (`family`), one
+//! family after another (`chain`), and the family that has none (`none`).
+
+#![tactic(auto)]
+
+pub mod chain;
+pub mod family;
+pub mod none;
+pub mod verdict;

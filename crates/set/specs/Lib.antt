@@ -1,0 +1,6 @@
+pub mod Holding
+pub mod Bounded
+pub mod Precedence
+pub mod Five
+pub mod Exact
+pub mod Worked
