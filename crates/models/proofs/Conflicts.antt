@@ -99,7 +99,7 @@ module _ (l r u : Tree) (e : subtrees u ≡ subtrees l ++ (subtrees r ++ (u ∷ 
       let b = (g (before ++ subtrees l) (u ∷ rest)).1 ((q, own), (quiet ((before ++ subtrees l) ++ subtrees r), rw (← before_order) at h)) in
       rw split_order ((f before (subtrees r ++ (u ∷ rest))).1 ((p, λ s x. fresh s (inl x)), b))
 
-symbol_free : (t : Tree) → is_symbol t ≡ true → ConflictFree t
+pub symbol_free : (t : Tree) → is_symbol t ≡ true → ConflictFree t
 symbol_free empty e = tt
 symbol_free (symbol s) e = tt
 symbol_free (choice l r) e = absurd (false≢true e)

@@ -1,3 +1,4 @@
 pub mod Joining
 pub mod Listing
 pub mod SymbolSets
+pub mod Taking

@@ -1,10 +1,13 @@
 -- Which symbols stand in a set, a union and a set of one. Assumes nothing.
-use Rattle.std.proofs.Common.{◌≡◌, ℕ, suc, ◌+◌, ◌-◌, ◌*◌, ◌/◌, ◌%◌, ◌^◌, ◌≤◌, max, leb, ◌⊎◌, sym, ap, ◌∙◌, subst, inl, inr, arith}
+use Rattle.std.proofs.Common.{◌≡◌, ℕ, suc, ◌+◌, ◌-◌, ◌*◌, ◌/◌, ◌%◌, ◌^◌, ◌<◌, ◌≤◌, w64, max, eqb, leb, ◌⊎◌, sym, refl, ap, ◌∙◌, subst, inl, inr, ⊎_elim, arith}
 use native.Mathlib.Nat.{two-pow-succ, div-eq_of_lt, zero-div}
-use lib.Bits.{bit_or, or_shr, or_step}
-use Rattle.std.proofs.lemmas.Nat.{pow-add, pow_below, shl-shr}
-use Rattle.std.proofs.lemmas.Bool.{cases_eq, cases_Bool, cases_order, cond-true, cond-false, le-leb}
-use Rattle.parts.specs.Sets.{In, only}
+use lib.Bits.{bit_and, bit_or, or_shr, or_step}
+use lib.Count.{ones}
+use Rattle.std.specs.Int.{bit_at, bit_not, trailing_zeros}
+use Rattle.std.proofs.lemmas.Nat.Bits.{bit_at_and, bit_at_not, bit_at-lt, bit_at-trailing_zeros, same_from_bits_below}
+use Rattle.std.proofs.lemmas.Nat.{zero_from_ones, pow-add, pow_below, shl-shr}
+use Rattle.std.proofs.lemmas.Bool.{cases_eq, cases_Bool, cases_lt, cases_order, cond-true, cond-false, eq-eqb, ne_eqb, le-leb}
+use Rattle.parts.specs.Sets.{In, EmptyIs, DifferenceIs, only}
 
 -- a bit of a union
 or_bit : (a b s : ℕ) → (bit_or a b / 2 ^ s) % 2 ≡ max ((a / 2 ^ s) % 2) ((b / 2 ^ s) % 2)
@@ -23,6 +26,13 @@ pub in_either : (a b s : ℕ) → In (bit_or a b) s → In a s ⊎ In b s
 in_either a b s (low, bit) =
     let union = or_bit a b s in
     elim (cases_eq ((a / 2 ^ s) % 2) 1) [ inl e ↦ inl (low, e) | inr ne ↦ inr (low, omega arith) ]
+
+pub cases_in : (set s : ℕ) → In set s ⊎ (In set s → ⊥)
+cases_in set s =
+    elim (cases_lt 63 s) [
+      | inl high ↦ inr (λ (low, bit). omega arith)
+      | inr low ↦ ⊎_elim (λ e. inl (low, e)) (λ ne. inr (λ i. ne i.1)) (cases_eq ((set / 2 ^ s) % 2) 1)
+    ]
 
 -- a power of two has one bit
 below_bit : (x s k : ℕ) → x ≡ suc k + s → (2 ^ x / 2 ^ s) % 2 ≡ 0
@@ -63,3 +73,51 @@ in_only x s h =
 
 pub only_in : (s : ℕ) → s ≤ 63 → In (only s) s
 only_in s low = subst (λ n. In n s) (sym (cond-true _ (2 ^ s) 0 (le-leb s 63 low))) (in_one s low)
+
+-- of the symbols of both, and of those that the other has not
+pub in_both : (a b s : ℕ) → In (bit_and a b) s → In a s × In b s
+in_both a b s (low, bit) = let both = bit_at_and a b s in ((low, omega arith), (low, omega arith))
+
+pub both_in : (a b s : ℕ) → In a s → In b s → In (bit_and a b) s
+both_in a b s (low, x) (_, y) = (low, let both = bit_at_and a b s in omega arith)
+
+pub difference_is : (a b : ℕ) → b < 2 ^ 64 → DifferenceIs a b (bit_and a (bit_not w64 b))
+difference_is a b small s = (
+  (λ (low, bit).
+      let both = bit_at_and a (bit_not w64 b) s in
+      let other = bit_at_not w64 b s small (omega arith) in
+      ((low, omega arith), (λ (_, has). omega arith))),
+  (λ ((low, bit), none).
+      let both = bit_at_and a (bit_not w64 b) s in
+      let other = bit_at_not w64 b s small (omega arith) in
+      elim (cases_eq (bit_at b s) 1) [ inl e ↦ absurd (none (low, e)) | inr ne ↦ (low, omega arith) ]),
+)
+
+no_ones : ones 0 ≡ 0
+unfolding ones
+no_ones = refl
+
+-- a set that is not 0 has a symbol, and 0 has none
+pub empty_is : (set : ℕ) → set < 2 ^ 64 → EmptyIs (eqb (ones set) 0) set
+empty_is set small = go (cases_eq (ones set) 0)
+  where
+    go : (ones set ≡ 0) ⊎ (ones set ≡ 0 → ⊥) → EmptyIs (eqb (ones set) 0) set
+    go (inl e) = rw (eq-eqb (ones set) 0 e) (λ s h. in_none s (subst (λ n. In n s) (zero_from_ones set e) h))
+    go (inr ne) =
+        rw (ne_eqb (ones set) 0 ne)
+        (let some : 0 < set = elim (cases_eq set 0) [ inl e ↦ absurd (ne (ap ones e ∙ no_ones)) | inr other ↦ omega arith ] in let (within, here, below) = bit_at-trailing_zeros w64 set some small in (trailing_zeros w64 set, (omega arith, here)))
+
+-- two sets with the same symbols are one set
+pub same_set : (a b : ℕ) → a < 2 ^ 64 → b < 2 ^ 64 → ((s : ℕ) → (In a s → In b s) × (In b s → In a s)) → a ≡ b
+same_set a b x y same = same_from_bits_below 64 a b x y (λ s small. go s small (same s) (bit_at-lt a s) (bit_at-lt b s))
+  where
+    go : (s : ℕ) → s < 64 → (In a s → In b s) × (In b s → In a s) → bit_at a s < 2 → bit_at b s < 2 → bit_at a s ≡ bit_at b s
+    go s small (f, g) p q =
+        elim (cases_eq (bit_at a s) 1) [
+          | inl e ↦ e ∙ sym (f (omega arith, e)).1
+          | inr ne ↦ elim (cases_eq (bit_at b s) 1) [ inl e ↦ absurd (ne (g (omega arith, e)).1) | inr nf ↦ omega arith ]
+        ]
+
+-- a set with a symbol is not 0
+pub in_some : (set : ℕ) → (s : ℕ) × In set s → 0 < set
+in_some set (s, has) = elim (cases_eq set 0) [ inl e ↦ absurd (in_none s (subst (λ n. In n s) e has)) | inr ne ↦ omega arith ]

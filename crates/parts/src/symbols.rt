@@ -1,7 +1,7 @@
 //! Sets of symbols, and how they are printed.
 
-ghost use Rattle.std.specs.Prelude.{◌≡◌, ◌^◌, if◌then◌else◌, Some, Decides, bit_or, nat_le};
-ghost use Rattle.parts.specs.Sets.{In, listed};
+ghost use Rattle.std.specs.Prelude.{◌≡◌, ◌^◌, if◌then◌else◌, Some, Decides, bit_and, bit_or, nat_le};
+ghost use Rattle.parts.specs.Sets.{In, EmptyIs, DifferenceIs, Taken, listed};
 
 use crate::part::LAST_SYMBOL;
 use std::fmt;
@@ -37,12 +37,50 @@ impl SymbolSet {
         symbol <= LAST_SYMBOL && (self.bits >> symbol) & 1 == 1
     }
 
+    /// Whether it has no symbol.
+    pub fn is_empty(&self) -> bool
+        ensures { EmptyIs result self.now.bits }
+    {
+        self.bits.count_ones() == 0
+    }
+
+    /// Takes out the smallest symbol, if there is one. A loop over it goes through the
+    /// symbols ascending.
+    pub fn take_first(&mut self) -> Option<u32>
+        ensures { Taken self.old.bits result self.new.bits }
+    {
+        if self.is_empty() {
+            return None;
+        }
+        let symbol = self.bits.trailing_zeros();
+        self.bits &= !(1 << symbol);
+        Some(symbol)
+    }
+
     /// The symbols of either.
     pub fn union(&self, other: SymbolSet) -> SymbolSet
         ensures { result.bits ≡ bit_or self.now.bits other.bits }
     {
         SymbolSet {
             bits: self.bits | other.bits,
+        }
+    }
+
+    /// The symbols that the other has not.
+    pub fn difference(&self, other: SymbolSet) -> SymbolSet
+        ensures { DifferenceIs self.now.bits other.bits result.bits }
+    {
+        SymbolSet {
+            bits: self.bits & !other.bits,
+        }
+    }
+
+    /// The symbols of both.
+    pub fn intersection(&self, other: SymbolSet) -> SymbolSet
+        ensures { result.bits ≡ bit_and self.now.bits other.bits }
+    {
+        SymbolSet {
+            bits: self.bits & other.bits,
         }
     }
 }

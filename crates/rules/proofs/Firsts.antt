@@ -1,5 +1,6 @@
 -- The first of a list of rules of which something holds. Assumes nothing.
-use Rattle.std.proofs.Common.{◌≡◌, ◌⊎◌, List, [], ◌∷◌, ◌++◌, Some, None, Option, sym, ◌∙◌, inl, inr}
+use Rattle.std.proofs.Common.{◌≡◌, List, [], ◌∷◌, ◌++◌, Some, None, Option, sym, refl, ◌∙◌, inl, inr}
+use Rattle.std.specs.Option.{option_or}
 use Rattle.models.proofs.Unlike.{some-none}
 use Rattle.rules.specs.Rules.{Rule, FirstIs, OneAnswer}
 use Rattle.rules.specs.declared.verdict.Verdict.{Verdict}
@@ -15,6 +16,10 @@ module _ (P : Rule → Type 0) where
   first_after [] ys a b none e f = f
   first_after (x ∷ xs) ys a b none (inl (broken, e)) f = absurd (some-none x.verdict (sym e ∙ none))
   first_after (x ∷ xs) ys a b none (inr (kept, more)) f = inr (kept, first_after xs ys a b none more f)
+
+  pub first_or : (xs ys : List Rule) (a b : Option Verdict) → FirstIs P xs a → FirstIs P ys b → FirstIs P (xs ++ ys) (option_or a b)
+  first_or xs ys None b e f = first_after xs ys None b refl e f
+  first_or xs ys (Some v) b e f = first_there xs ys (Some v) (some-none v) e
 
   -- there is one answer only
   pub one_answer : (xs : List Rule) → OneAnswer P xs

@@ -16,6 +16,7 @@ pub struct Chain<F, G> {
 
 impl<F: RuleFamily, G: RuleFamily> Chain<F, G> {
     /// The first family, and then the second.
+    #[tactic(auto, using(crate::proofs::Firsts::one_answer))]
     pub fn of(first: F, second: G) -> Chain<F, G>
         ensures made { (result.first ≡ first) × (result.second ≡ second) }
         ensures fixed { AnswersFixed (F.rules first ++ G.rules second) }
@@ -27,6 +28,7 @@ impl<F: RuleFamily, G: RuleFamily> Chain<F, G> {
 impl<F: RuleFamily, G: RuleFamily> RuleFamily for Chain<F, G> {
     ghost rules = { λ self. F.rules self.first ++ G.rules self.second };
 
+    #[tactic(auto, using(crate::proofs::Firsts::first_there, crate::proofs::Firsts::first_after))]
     fn broken_by_message(&self, message: &[u32]) -> Option<Verdict> {
         match self.first.broken_by_message(message) {
             None => self.second.broken_by_message(message),
@@ -34,6 +36,7 @@ impl<F: RuleFamily, G: RuleFamily> RuleFamily for Chain<F, G> {
         }
     }
 
+    #[tactic(auto, using(crate::proofs::Firsts::first_there, crate::proofs::Firsts::first_after))]
     fn broken_by_model(&self, model: &Model<'_>) -> Option<Verdict> {
         match self.first.broken_by_model(model) {
             None => self.second.broken_by_model(model),

@@ -1,8 +1,8 @@
 -- The five families of a conflict-free model: what their rules are, and in which order they stand. Assumes nothing.
 use Rattle.std.specs.Prelude.{ℕ, Bool, true, false, List, [], ◌∷◌, ◌++◌}
-use Rattle.parts.specs.Sets.{In, only, symbols_below}
+use Rattle.parts.specs.Sets.{In, only, members}
 use Rattle.parts.specs.declared.part.Repeats.{Repeats}
-use Rattle.models.specs.Messages.{Message, Occurs, HasOneOf, occurrences, After}
+use Rattle.models.specs.Messages.{Occurs, HasOneOf, occurrences, After}
 use Rattle.models.specs.Trees.{Tree, Between}
 use Rattle.models.specs.Trees.Tree.{empty, symbol, choice, sequence, interleave, count, nonempty}
 use Rattle.rules.specs.Rules.{Rule}
@@ -21,8 +21,9 @@ abbrev pub for_each : List ℕ → (ℕ → List Rule) → List Rule
 for_each [] rules = []
 for_each (s ∷ ss) rules = rules s ++ for_each ss rules
 
+-- the symbols of a tree, ascending
 abbrev pub ascending : Tree → List ℕ
-ascending t = symbols_below 64 (symbols_in t)
+ascending t = members (symbols_in t)
 
 -- one rule where the test says no
 abbrev pub unless : Bool → Rule → List Rule

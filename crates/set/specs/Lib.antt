@@ -3,4 +3,9 @@ pub mod Bounded
 pub mod Precedence
 pub mod Five
 pub mod Exact
+pub mod Ordering
+pub mod Bringing
+pub mod Trials
+pub mod Asking
+pub mod Subjects
 pub mod Worked

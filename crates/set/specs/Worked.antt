@@ -1,5 +1,5 @@
 -- Pairs of a sent and an expected model, with what is answered of them. Assumes nothing.
-use Rattle.std.specs.Prelude.{ℕ, Some, None, Option}
+use Rattle.std.specs.Prelude.{Some, None, Option}
 use Rattle.parts.specs.Sets.{only}
 use Rattle.models.specs.Trees.{Tree}
 use Rattle.models.specs.Trees.Tree.{empty, symbol, choice, sequence, interleave, count, nonempty}

@@ -1,5 +1,13 @@
-//! The five rule families of an expected model, and what is asked of them.
+//! The five rule families of an expected model.
 
 #![tactic(auto)]
 
-pub mod probe;
+mod bounds;
+pub mod conflict;
+mod expected;
+mod families;
+mod message;
+mod named;
+mod precedence;
+mod subject;
+pub mod trial;

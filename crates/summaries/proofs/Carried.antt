@@ -113,7 +113,7 @@ stands_carried (interleave l r) s f h =
 stands_carried (count t low high) s f h = count_carries t low high s f.1 (stands_carried t s f.0 h)
 stands_carried (nonempty t) s f h = nonempty_carries t s (stands_carried t s f.0 h)
 
-carried_stands : (t : Tree) (s : ℕ) → Carries t s → Stands t s
+pub carried_stands : (t : Tree) (s : ℕ) → Carries t s → Stands t s
 carried_stands empty s h = carries_empty s h
 carried_stands (symbol x) s h = carries_symbol x s h
 carried_stands (choice l r) s h = ⊎_elim (λ z. inl (carried_stands l s z)) (λ z. inr (carried_stands r s z)) (carries_choice l r s h)

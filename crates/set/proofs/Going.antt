@@ -1,0 +1,42 @@
+-- Rules asked one symbol after another, down a set. Assumes nothing.
+use Rattle.std.proofs.Common.{◌≡◌, ℕ, Bool, true, false, Decides, List, [], ◌∷◌, Some, None, Option, refl, inl, inr}
+use Rattle.std.proofs.lemmas.Bool.{both_ways}
+use Rattle.parts.specs.Sets.{members}
+use Rattle.models.specs.Trees.{Tree, Fits, Formed}
+use Rattle.rules.specs.Rules.{Rule, FirstIs}
+use Rattle.rules.specs.declared.verdict.Verdict.{Verdict}
+use Rattle.rules.proofs.Firsts.{first_there, first_after}
+use Rattle.models.proofs.Unlike.{some-none}
+use Rattle.set.specs.Five.{for_each, unless}
+use Rattle.set.specs.Holding.{takes_empty}
+use Rattle.set.proofs.Holding.{takes_empty_is}
+
+-- the rules of the symbols that are left are all that are left to ask
+abbrev pub Left : (Rule → Type 0) → (ℕ → List Rule) → ℕ → ℕ → Type 0
+Left P rules all rest = (answer : Option Verdict) → FirstIs P (for_each (members rest) rules) answer → FirstIs P (for_each (members all) rules) answer
+
+module _ (P : Rule → Type 0) where
+  -- one rule
+  pub broken_rule : (rule : Rule) (b : Bool) → Decides b (P rule) → b ≡ true → FirstIs P (rule ∷ []) (Some (rule.verdict))
+  broken_rule rule b d e = inl (d.0 e, refl)
+
+  pub kept_rule : (rule : Rule) (b : Bool) → Decides b (P rule) → b ≡ false → FirstIs P (rule ∷ []) None
+  kept_rule rule b d e = inr ((λ p. both_ways b e (d.1 p)), refl)
+
+  module _ (rules : ℕ → List Rule) (all old new s : ℕ) (left : Left P rules all old) (taken : members old ≡ s ∷ members new) where
+    pub left_found : (v : Verdict) → FirstIs P (rules s) (Some v) → FirstIs P (for_each (members all) rules) (Some v)
+    left_found v found = left (Some v) (rw taken (first_there P (rules s) (for_each (members new) rules) (Some v) (some-none v) found))
+
+    pub left_more : FirstIs P (rules s) None → Left P rules all new
+    left_more none answer rest = left answer (rw taken (first_after P (rules s) (for_each (members new) rules) None answer refl none rest))
+
+  pub left_none : (rules : ℕ → List Rule) (all rest : ℕ) → Left P rules all rest → members rest ≡ [] → FirstIs P (for_each (members all) rules) None
+  left_none rules all rest left e = left None (rw e refl)
+
+  -- a rule that stands only where the empty message does not fit
+  module _ (t : Tree) (formed : Formed t) (v : Bool) (fits : Decides v (Fits t [])) (rule : Rule) where
+    pub unless_fits : v ≡ true → FirstIs P (unless (takes_empty t) rule) None
+    unless_fits e = rw (takes_empty_is t v formed fits, e) refl
+
+    pub unless_not : v ≡ false → (answer : Option Verdict) → FirstIs P (rule ∷ []) answer → FirstIs P (unless (takes_empty t) rule) answer
+    unless_not e answer first = rw (takes_empty_is t v formed fits, e) first

@@ -1,0 +1,16 @@
+use Rattle.std.proofs.Common.{[], ◌∷◌, length}
+use Rattle.models.specs.Checked.{tree_of}
+use Rattle.parts.specs.Sets.{members}
+use Rattle.set.specs.Bounded.{bounds_in}
+use Rattle.set.specs.Five.{cardinality}
+use Rattle.set.specs.Holding.{symbols_in}
+use Rattle.set.proofs.Going.{Left}
+use Rattle.set.proofs.families.cardinality.Cardinality.first_broken.Given as goal
+
+abbrev pub invariant-loop-symbol : goal.invariant-loop-symbol
+invariant-loop-symbol g l =
+    let t = tree_of l.self.expected.model in
+    Left (g.S.Subject.breaks l.subject) (λ s. cardinality s (bounds_in s t) ∷ []) (symbols_in t) l.rest.bits
+
+abbrev pub decreases-loop-symbol : goal.decreases-loop-symbol
+decreases-loop-symbol g l = length (members l.rest.bits)

@@ -1,0 +1,34 @@
+use Rattle.std.proofs.Common.{◌≡◌, ap, ◌∙◌, None}
+use Rattle.models.specs.Checked.{tree_of}
+use Rattle.models.proofs.Written.{model_sheet}
+use Rattle.models.specs.Conflicts.{first_conflict_of}
+use Rattle.rules.specs.Rules.{Breaks, FirstIs}
+use Rattle.set.specs.Five.{five}
+use Rattle.set.specs.declared.expected.Expected.{Expected}
+use Rattle.set.proofs.Exact.{five_exact}
+use Rattle.set.proofs.Trials.{five_asked, fits_told}
+use Rattle.set.proofs.trial.fit_message.Goals as goal
+
+pub returns-in_err-expected-clause-exact : goal.returns-in_err-expected-clause-exact
+returns-in_err-expected-clause-exact c = five_exact
+
+pub returns-clause-exact : goal.returns-clause-exact
+returns-clause-exact c = five_exact
+
+first : (c : goal.After-broken_by_message) → FirstIs (Breaks c.args.message.now) (five (tree_of c.args.expected.now)) c.broken_by_message.result
+first c =
+    let own = c.in_ok-expected.ensures in
+    let (a, b, d, e, f) = c.five.ensures in
+    let tree = λ (x : Expected). tree_of x.model in
+    five_asked (Breaks c.args.message.now) (tree_of c.args.expected.now) _ _ _ _ _ _ (ap tree a ∙ own) (ap tree b ∙ own) (ap tree d ∙ own) (ap tree e ∙ own) (ap tree f ∙ own) c.broken_by_message.ensures
+
+free : (c : goal.After-broken_by_message) → first_conflict_of (tree_of c.args.expected.now) ≡ None
+free c = rw c.in_ok-expected.ensures at c.in_ok-expected.expected.free
+
+pub returns-clause-answer : goal.returns-clause-answer
+returns-clause-answer c = (free c, first c)
+
+pub returns-clause-fits : goal.returns-clause-fits
+returns-clause-fits c =
+    let expected = c.args.expected.now in
+    fits_told (tree_of expected) (model_sheet expected.parts.now expected.checked).1 (free c) _ c.args.message.now (first c)

@@ -1,0 +1,35 @@
+//! The five rule families of an expected model, a file for each, and their chain.
+//! Only this crate makes them, of a model that was found conflict-free.
+
+ghost use Rattle.std.specs.Prelude.{◌≡◌};
+
+pub(crate) mod cardinality;
+pub(crate) mod co_occurrence;
+pub(crate) mod lower_bound;
+pub(crate) mod order;
+pub(crate) mod upper_bound;
+
+use crate::expected::Expected;
+use cardinality::Cardinality;
+use co_occurrence::CoOccurrence;
+use lower_bound::LowerBound;
+use order::Order;
+use rules::chain::Chain;
+use upper_bound::UpperBound;
+
+/// The five, one after another.
+pub(crate) type Five<'a> = Chain<
+    UpperBound<'a>,
+    Chain<LowerBound<'a>, Chain<Cardinality<'a>, Chain<CoOccurrence<'a>, Order<'a>>>>,
+>;
+
+/// The five families of the model.
+pub(crate) fn five<'a>(expected: Expected<'a>) -> Five<'a>
+    ensures { (result.first.expected ≡ expected.entry) × (result.second.first.expected ≡ expected.entry) × (result.second.second.first.expected ≡ expected.entry) × (result.second.second.second.first.expected ≡ expected.entry) × (result.second.second.second.second.expected ≡ expected.entry) }
+{
+    let order = Order { expected };
+    let from_co_occurrence = Chain::of(CoOccurrence { expected }, order);
+    let from_cardinality = Chain::of(Cardinality { expected }, from_co_occurrence);
+    let from_lower_bound = Chain::of(LowerBound { expected }, from_cardinality);
+    Chain::of(UpperBound { expected }, from_lower_bound)
+}
