@@ -16,3 +16,4 @@ pub mod Marking
 pub mod Ordering
 pub mod Bringing
 pub mod Trials
+pub mod Meeting

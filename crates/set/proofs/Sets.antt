@@ -10,13 +10,16 @@ use Rattle.summaries.specs.SymbolsOf.{StandingAre}
 use Rattle.set.specs.Holding.{symbols_in}
 use Rattle.set.proofs.Holding.{symbols_stand}
 
-only_small : (s : ℕ) → (63 < s) ⊎ (s ≤ 63) → only s < 2 ^ 64
-only_small s (inl high) = rw (cond-false (leb s 63) (2 ^ s) 0 (lt-leb s 63 high)) (omega arith)
-only_small s (inr low) = rw (cond-true (leb s 63) (2 ^ s) 0 (le-leb s 63 low)) (pow_below s 64 (omega arith))
+only_cases : (s : ℕ) → (63 < s) ⊎ (s ≤ 63) → only s < 2 ^ 64
+only_cases s (inl high) = rw (cond-false (leb s 63) (2 ^ s) 0 (lt-leb s 63 high)) (omega arith)
+only_cases s (inr low) = rw (cond-true (leb s 63) (2 ^ s) 0 (le-leb s 63 low)) (pow_below s 64 (omega arith))
+
+pub only_small : (s : ℕ) → only s < 2 ^ 64
+only_small s = only_cases s (cases_lt 63 s)
 
 pub symbols_small : (t : Tree) → symbols_in t < 2 ^ 64
 symbols_small empty = omega arith
-symbols_small (symbol s) = only_small s (cases_lt 63 s)
+symbols_small (symbol s) = only_small s
 symbols_small (choice l r) = or_lt 64 (symbols_in l) (symbols_in r) (symbols_small l) (symbols_small r)
 symbols_small (sequence l r) = or_lt 64 (symbols_in l) (symbols_in r) (symbols_small l) (symbols_small r)
 symbols_small (interleave l r) = or_lt 64 (symbols_in l) (symbols_in r) (symbols_small l) (symbols_small r)

@@ -1,11 +1,16 @@
 -- What is found out about one message. Assumes nothing.
-use Rattle.std.specs.Prelude.{◌≡◌, ℕ, ◌≤◌, ◌∷◌, ◌++◌, length, Some, None, Option}
-use Rattle.parts.specs.Sets.{In}
+use Rattle.std.specs.Prelude.{◌≡◌, ℕ, ◌≤◌, [], ◌∷◌, ◌++◌, length, Some, None, Option, bit_or}
+use Rattle.parts.specs.Sets.{In, only}
 use Rattle.models.specs.Messages.{Message, Occurs}
 
 -- the set has the symbols of the message up to 63, and no others
 abbrev pub SymbolsMet : Message → ℕ → Type 0
 SymbolsMet m set = (s : ℕ) → (In set s → Occurs s m) × (s ≤ 63 → Occurs s m → In set s)
+
+-- that set
+abbrev pub met_in : Message → ℕ
+met_in [] = 0
+met_in (x ∷ m) = bit_or (only x) (met_in m)
 
 -- each symbol of the message is in the set
 abbrev pub AllIn : ℕ → Message → Type 0

@@ -160,7 +160,7 @@ impl RuleFamily for CoOccurrence<'_> {
     ghost rules = { λ self. co_occurrence_rules (tree_of self.expected.model) };
 
     fn broken_by_message(&self, message: &[u32]) -> Option<Verdict> {
-        self.first_broken(&OneMessage { message })
+        self.first_broken(&OneMessage::of(message))
     }
 
     fn broken_by_model(&self, model: &Model<'_>) -> Option<Verdict> {

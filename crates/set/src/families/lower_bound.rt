@@ -39,7 +39,7 @@ impl RuleFamily for LowerBound<'_> {
     ghost rules = { λ self. lower_bound_rules (tree_of self.expected.model) };
 
     fn broken_by_message(&self, message: &[u32]) -> Option<Verdict> {
-        self.first_broken(&OneMessage { message })
+        self.first_broken(&OneMessage::of(message))
     }
 
     fn broken_by_model(&self, model: &Model<'_>) -> Option<Verdict> {

@@ -1,9 +1,10 @@
 //! One message as the subject.
 
-ghost use Rattle.std.specs.Prelude.{Decides};
+ghost use Rattle.std.specs.Prelude.{◌≡◌, Decides};
 ghost use Rattle.models.specs.Messages.{HasOneOf};
 ghost use Rattle.models.specs.Trees.{Between};
 ghost use Rattle.rules.specs.Rules.{Breaks};
+ghost use Rattle.set.specs.Asking.{met_in};
 
 use super::Subject;
 use crate::message::{first_outside, last_place, occurrences, symbols_met};
@@ -14,15 +15,26 @@ use rules::verdict::Verdict;
 
 #[derive(Clone, Copy)]
 pub(crate) struct OneMessage<'m> {
-    pub(crate) message: &'m [u32],
+    message: &'m [u32],
+    /// Its symbols, so far as they are in sets.
+    met: SymbolSet,
+    ghost all: { met.bits ≡ met_in message.now },
 }
 
-impl OneMessage<'_> {
-    #[tactic(auto, using(crate::proofs::Subjects::met_has))]
+impl<'m> OneMessage<'m> {
+    pub(crate) fn of(message: &'m [u32]) -> OneMessage<'m>
+        ensures { result.message.now ≡ message.now }
+    {
+        OneMessage {
+            message,
+            met: symbols_met(message),
+        }
+    }
+
     fn has_one_of(&self, set: SymbolSet) -> bool
         ensures { Decides result (HasOneOf set.bits self.now.message.now) }
     {
-        !symbols_met(self.message).intersection(set).is_empty()
+        !self.met.intersection(set).is_empty()
     }
 }
 
