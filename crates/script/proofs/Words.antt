@@ -1,12 +1,10 @@
 -- One word more of a line. Assumes nothing.
-use Rattle.std.proofs.Common.{◌≡◌, ℕ, ◌<◌, List, [], ◌∷◌, ◌++◌, length, Some, sym, refl, ap, ◌∙◌}
+use Rattle.std.proofs.Common.{◌≡◌, ℕ, ◌<◌, List, [], ◌∷◌, ◌++◌, length, Some, Option, sym, refl, ap, ◌∙◌}
 use lib.ListN.{length-map}
-use Rattle.parts.specs.declared.part.Part.{Part}
 use Rattle.std.specs.Char.{is_whitespace, is_not_whitespace}
 use Rattle.std.specs.Str.{NoCharPasses, EmptyOrStartsWithPassing}
 use Rattle.std.proofs.lemmas.List.{map_push}
 use Rattle.script.specs.Lines.{Write}
-use Rattle.script.specs.Reads.{part_read}
 use Rattle.script.specs.Words.{First, Begins}
 
 -- what `split_whitespace` says of an item
@@ -17,19 +15,19 @@ pub begins_more : (bs : List ℕ) (ws : List (List ℕ)) (w mid rest : List ℕ)
 begins_more bs [] w mid rest h f = (rest, rw h f, refl)
 begins_more bs (v ∷ ws) w mid rest h f = (h.0, h.1, begins_more h.0 ws w mid rest h.2 f)
 
--- the words of text before rest write the parts ps
-pub record Sofar (text rest : List ℕ) (ps : List Part) : Type 0 where
+-- the words of text before rest are read as xs
+pub record Sofar {X : Type 0} (read : List ℕ → Option X) (text rest : List ℕ) (xs : List X) : Type 0 where
   pub seen : List (List ℕ)
   pub begins : Begins text seen rest
-  pub written : Write seen ps
+  pub written : Write read seen xs
 
-module _ {text rest : List ℕ} {ps : List Part} (old : Sofar text rest ps) where
-  pub counted : length ps ≡ length old.seen
-  counted = sym (length-map ps Some) ∙ sym (ap length old.written) ∙ length-map old.seen part_read
+module _ {X : Type 0} {read : List ℕ → Option X} {text rest : List ℕ} {xs : List X} (old : Sofar read text rest xs) where
+  pub counted : length xs ≡ length old.seen
+  counted = sym (length-map xs Some) ∙ sym (ap length old.written) ∙ length-map old.seen read
 
-  pub one_more : (w next : List ℕ) (p : Part) → First rest w next → part_read w ≡ Some p → Sofar text next (ps ++ (p ∷ []))
-  one_more w next p first is = record {
+  pub one_more : (w next : List ℕ) (x : X) → First rest w next → read w ≡ Some x → Sofar read text next (xs ++ (x ∷ []))
+  one_more w next x first is = record {
     seen = old.seen ++ (w ∷ []);
     begins = begins_more text old.seen w rest next old.begins first;
-    written = map_push part_read old.seen w ∙ (λ i. old.written i ++ (is i ∷ [])) ∙ sym (map_push Some ps p);
+    written = map_push read old.seen w ∙ (λ i. old.written i ++ (is i ∷ [])) ∙ sym (map_push Some xs x);
   }

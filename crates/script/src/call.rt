@@ -23,6 +23,16 @@ pub enum Call {
         question: Question,
         parts: Vec<Part>,
     },
+    /// Ask whether every message of the sent model fits the expected one.
+    Try {
+        sent: Vec<Part>,
+        expected: Vec<Part>,
+    },
+    /// Ask whether a message fits the expected model.
+    Fit {
+        message: Vec<u32>,
+        expected: Vec<Part>,
+    },
 }
 
 impl Call {
@@ -41,7 +51,7 @@ impl Call {
     }
 
     /// The call of a name and the words after it.
-    fn named<'a>(name: &'a str, reader: Reader<'a>) -> Result<Call, LineError<'a>>
+    fn named<'a>(name: &'a str, mut reader: Reader<'a>) -> Result<Call, LineError<'a>>
         ensures { CallRead name.now reader.entry result }
     {
         // no table: each call reads other words
@@ -53,6 +63,16 @@ impl Call {
             "ask" => {
                 let (question, parts) = question_and_parts(reader)?;
                 Ok(Call::Ask { question, parts })
+            }
+            "try" => {
+                let sent = reader.before_in()?;
+                let expected = reader.parts()?;
+                Ok(Call::Try { sent, expected })
+            }
+            "fit" => {
+                let message = reader.before_in()?;
+                let expected = reader.parts()?;
+                Ok(Call::Fit { message, expected })
             }
             _ => Err(LineError::NoSuchCall { name }),
         }

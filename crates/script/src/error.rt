@@ -21,6 +21,8 @@ pub enum LineError<'a> {
     NotColon { word: Option<&'a str> },
     /// A word is not written as a part; `count` numbers the parts of the line from 1.
     NotPart { count: usize, word: &'a str },
+    /// The line ends without the word `in`.
+    NoIn,
     /// Memory ran out while the line was read.
     Memory,
 }
@@ -39,7 +41,7 @@ impl fmt::Display for LineError<'_> {
     fn fmt<W: fmt::Write>(&self, f: &mut fmt::Formatter<W>) -> fmt::Result {
         match self {
             LineError::NoSuchCall { name } => {
-                write!(f, "no such call: {name} (calls: check, ask)")
+                write!(f, "no such call: {name} (calls: check, ask, try, fit)")
             }
             LineError::NoSuchQuestion { name } => {
                 let name = or_end(*name);
@@ -62,6 +64,10 @@ impl fmt::Display for LineError<'_> {
             }
             LineError::NotPart { count, word } => {
                 write!(f, "part {count} is not kind:symbol:low:high: {word}")
+            }
+            LineError::NoIn => {
+                let end = or_end(None);
+                write!(f, "expected in before the expected parts, and not: {end}")
             }
             LineError::Memory => write!(f, "out of memory"),
         }

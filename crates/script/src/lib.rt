@@ -1,5 +1,5 @@
-//! The calls of a script: what a word writes (`read`), the words of a line in turn
-//! (`reader`), the question that they ask (`question`), which call a line makes
+//! The calls of a script: what a word writes (`read`, `written`), the words of a line in
+//! turn (`reader`), the question that they ask (`question`), which call a line makes
 //! (`call`), or what is wrong with it (`error`).
 
 #![tactic(auto)]
@@ -9,3 +9,4 @@ pub mod error;
 pub mod question;
 pub mod read;
 mod reader;
+mod written;

@@ -1,12 +1,13 @@
 //! Reads a line from its front to its end, word by word.
 ghost use Rattle.std.specs.Prelude.{◌≡◌, ℕ, List, MatchResult};
 ghost use Rattle.std.specs.Str.Iter.{split_whitespace_rest};
-ghost use Rattle.script.specs.Lines.{AllParts, NotParts};
+ghost use Rattle.script.specs.Lines.{AllParts, BeforeIn, NotBeforeIn, NotParts};
 ghost use Rattle.script.specs.Reader.{ReadNext};
 ghost use Rattle.script.specs.Words.{Next};
 
 use crate::error::LineError;
 use crate::read;
+use crate::written::Written;
 use parts::part::Part;
 use std::alloc::Global;
 use std::marker::Model;
@@ -54,6 +55,23 @@ impl<'a> Reader<'a> {
         let word = self.next_word();
         // no `ok_or_else`: no proof closes yet of a closure that gives back a borrow it captured
         word.and_then(read).ok_or(wrong(word))
+    }
+
+    /// What the words up to `in` write.
+    pub(crate) fn before_in<T: Written>(&mut self) -> Result<Vec<T>, LineError<'a>>
+        ensures { MatchResult result (λ row. BeforeIn T.written self.old row.items self.new) (NotBeforeIn T.written T.unread self.old) }
+    {
+        let mut row = Vec::new(self.heap);
+        while let Some(word) = self.next_word() {
+            if word == "in" {
+                return Ok(row);
+            }
+            let Some(value) = T::read(word) else {
+                return Err(T::wrong(row.len() + 1, word));
+            };
+            row.push(value)?;
+        }
+        Err(LineError::NoIn)
     }
 
     /// The parts that all the words left write.

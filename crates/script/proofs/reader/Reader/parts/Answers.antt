@@ -1,4 +1,5 @@
 use Rattle.std.proofs.Common.{◌≡◌, ◌+◌, length, is_ok, vec_items, sym, ap, subst, inr, arith}
+use Rattle.script.specs.Reads.{part_read}
 use Rattle.script.proofs.Words.{Sofar, first_of, begins_more, counted, one_more}
 use Rattle.script.specs.declared.error.LineError.TheVariants.{NotPart}
 use Rattle.std.proofs.ResultArms.{chosen}
@@ -25,4 +26,4 @@ pub loop-word-preserved : goal.loop-word-preserved
 loop-word-preserved c =
     let pushed = chosen _ _ _ _ c.push.ensures.items (ap is_ok c.in_ok-push.was) in
     let first = first_of _ c.in-Some.word.now _ c.in-Some.ensures.steps in
-    subst (Sofar _ _) (sym pushed) (one_more c.loop-word.invariant _ _ _ first (sym c.in-Some-part.ensures))
+    subst (Sofar part_read _ _) (sym pushed) (one_more c.loop-word.invariant _ _ _ first (sym c.in-Some-part.ensures))
