@@ -6,8 +6,10 @@ use crate::reply::Reply;
 use models::model::check::check;
 use parts::refusal::Refusal;
 use script::call::Call;
+use set::trial::{fit_message, try_model};
 
-/// Runs a call: a reply, or why its parts are no model.
+/// Runs a call: a reply, or why a table of parts is no model; of two tables the sent one
+/// is checked first.
 pub fn answer_call(call: &Call) -> Result<Reply, Refusal>
     ensures { CallAnswered call.now result }
 {
@@ -20,6 +22,15 @@ pub fn answer_call(call: &Call) -> Result<Reply, Refusal>
         Call::Ask { question, parts } => {
             let model = check(parts.as_slice())?;
             Ok(Reply::of(&model, *question))
+        }
+        Call::Try { sent, expected } => {
+            let sent = check(sent.as_slice())?;
+            let expected = check(expected.as_slice())?;
+            Ok(Reply::tried(try_model(&sent, &expected), Reply::Included))
+        }
+        Call::Fit { message, expected } => {
+            let expected = check(expected.as_slice())?;
+            Ok(Reply::tried(fit_message(message.as_slice(), &expected), Reply::Fits))
         }
     }
 }

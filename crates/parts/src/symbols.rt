@@ -11,7 +11,7 @@ const SYMBOLS: u32 = LAST_SYMBOL + 1;
 
 /// A set of symbols: the bit worth 2^s stands for symbol s. A symbol above 63
 /// belongs to no set.
-#[derive(Clone, Copy)]
+#[derive(Clone, Copy, PartialEq, Eq)]
 pub struct SymbolSet {
     pub bits: u64,
 }
@@ -66,7 +66,7 @@ impl SymbolSet {
         }
     }
 
-    /// The symbols that the other has not.
+    /// Its symbols that the other does not have.
     pub fn difference(&self, other: SymbolSet) -> SymbolSet
         ensures { DifferenceIs self.now.bits other.bits result.bits }
     {

@@ -1,5 +1,5 @@
 -- The first of a list of rules of which something holds. Assumes nothing.
-use Rattle.std.proofs.Common.{◌≡◌, List, [], ◌∷◌, ◌++◌, Some, None, Option, sym, refl, ◌∙◌, inl, inr}
+use Rattle.std.proofs.Common.{◌≡◌, ◌⊎◌, List, [], ◌∷◌, ◌++◌, Some, None, Option, sym, refl, ◌∙◌, inl, inr}
 use Rattle.std.specs.Option.{option_or}
 use Rattle.models.proofs.Unlike.{some-none}
 use Rattle.rules.specs.Rules.{Rule, FirstIs, OneAnswer}
@@ -20,6 +20,14 @@ module _ (P : Rule → Type 0) where
   pub first_or : (xs ys : List Rule) (a b : Option Verdict) → FirstIs P xs a → FirstIs P ys b → FirstIs P (xs ++ ys) (option_or a b)
   first_or xs ys None b e f = first_after xs ys None b refl e f
   first_or xs ys (Some v) b e f = first_there xs ys (Some v) (some-none v) e
+
+  -- and the answer about two lists is that about the one, or else about the other
+  pub first_split : (xs ys : List Rule) (a : Option Verdict) → FirstIs P (xs ++ ys) a
+      → (FirstIs P xs a × (a ≡ None → ⊥)) ⊎ (FirstIs P xs None × FirstIs P ys a)
+  first_split [] ys a h = inr (refl, h)
+  first_split (x ∷ xs) ys a (inl (broken, e)) = inl (inl (broken, e), λ none. some-none x.verdict (sym e ∙ none))
+  first_split (x ∷ xs) ys a (inr (kept, h)) =
+      elim (first_split xs ys a h) [ inl (f, some) ↦ inl (inr (kept, f), some) | inr (none, f) ↦ inr (inr (kept, none), f) ]
 
   -- there is one answer only
   pub one_answer : (xs : List Rule) → OneAnswer P xs

@@ -8,7 +8,7 @@ use crate::verdict::Verdict;
 use models::model::Model;
 
 /// Its list is the first family's and then the second's; so chains may be chained.
-#[derive(Clone, Copy)]
+#[derive(Clone, Copy, Drop)]
 pub struct Chain<F, G> {
     first: F,
     second: G,
@@ -19,7 +19,7 @@ impl<F: RuleFamily, G: RuleFamily> Chain<F, G> {
     #[tactic(auto, using(crate::proofs::Firsts::one_answer))]
     pub fn of(first: F, second: G) -> Chain<F, G>
         ensures made { (result.first ≡ first) × (result.second ≡ second) }
-        ensures fixed { AnswersFixed (F.rules first ++ G.rules second) }
+        ensures fixed { AnswersFixed (F.rules first) × AnswersFixed (G.rules second) × AnswersFixed (F.rules first ++ G.rules second) }
     {
         Chain { first, second }
     }

@@ -21,3 +21,16 @@ pub trait RuleFamily {
     fn broken_by_model(&self, model: &Model<'_>) -> Option<Verdict>
         ensures { FirstIs (SomeBreaks (tree_of model.now)) (rules self.now) result };
 }
+
+/// A family that is lent answers as itself.
+impl<F: RuleFamily> RuleFamily for &F {
+    ghost rules = { λ self. F.rules self.now };
+
+    fn broken_by_message(&self, message: &[u32]) -> Option<Verdict> {
+        (*self).broken_by_message(message)
+    }
+
+    fn broken_by_model(&self, model: &Model<'_>) -> Option<Verdict> {
+        (*self).broken_by_model(model)
+    }
+}

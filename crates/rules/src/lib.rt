@@ -6,4 +6,6 @@
 pub mod chain;
 pub mod family;
 pub mod none;
+#[cfg(test)]
+mod tests;
 pub mod verdict;

@@ -1,4 +1,4 @@
-//! Answers the calls of a script, one to a line: `check` and `ask`.
+//! Answers the calls of a script, one to a line: `check`, `ask`, `try` and `fit`.
 
 #![tactic(auto)]
 
@@ -23,6 +23,11 @@ calls:
                           conflict, or where the parts fail and why; a part
                           is written kind:symbol:low:high in decimal
   ask QUESTION : PART..   answer a question about all messages of the model
+  try PART.. in PART..    say whether every message of the first model, which is
+                          sent, fits the second, which is expected; if not,
+                          which rule of the second is the first that one breaks
+  fit SYMBOL.. in PART..  say whether the message of the symbols fits the model;
+                          if not, which rule is the first that it breaks
 
 questions:
   every SET               has every message a symbol of the set, and has every
@@ -33,9 +38,17 @@ questions:
                           of the second
   after SYMBOL SYMBOL     has some message the first symbol after the second
 
+answers of try and fit:
+  included, or fits       no rule is broken
+  family 3, {0}, 1 to 5   a verdict: the family of the rule, its set or sets, and
+                          of family 3 the bounds, * being no upper end
+  conflict at 3           the expected model is not conflict-free
+
 examples:
   check 1:0:0:0 1:1:0:0 3:0:0:0
   ask after 0 1 : 1:0:0:0 1:1:0:0 3:0:0:0
+  try 1:0:0:0 1:1:0:0 3:0:0:0 in 1:0:0:0 1:1:0:0 4:0:0:0
+  fit 1 0 in 1:0:0:0 1:1:0:0 3:0:0:0
 
 A line that is no call ends the run with a message and status 1.
 ";

@@ -7,13 +7,13 @@ use Rattle.parts.specs.Sets.{In}
 use Rattle.parts.proofs.SymbolSets.{cases_in}
 use Rattle.rules.specs.Rules.{Rule, KeepsAll, Breaks, SomeBreaks}
 use Rattle.set.specs.Bounded.{bounds_in}
-use Rattle.set.specs.Exact.{FiveExact, FiveInclude, FiveFit}
-use Rattle.set.specs.Five.{where_so, lower_bound, lower_bound_rules, cardinality, cardinality_rules, co_occurrence_rules, order, order_rules_from, order_rules, five}
+use Rattle.set.specs.Exact.{FiveExact, FiveInclude, FiveFit, ValuesTell}
+use Rattle.set.specs.Five.{when, lower_bound, lower_bound_rules, cardinality, cardinality_rules, co_occurrence_rules, order, order_rules_from, order_rules, five}
 use Rattle.set.specs.Holding.{holds, symbols_in, takes_empty}
 use Rattle.set.specs.Precedence.{ordered}
 use Rattle.set.proofs.Fitting.{Filled, fits_filled, has_some, fits_obeys, obeys_fits}
-use Rattle.set.proofs.Holding.{holds_stands, stands_holds, symbols_stand, Within, fits_within}
-use Rattle.set.proofs.Lists.{KeepsAll-append, keeps_append, KeepsAll-unless, keeps_unless, KeepsAll-where_so, keeps_where_so, KeepsAll-standing, keeps_standing, none_broken, all_kept}
+use Rattle.set.proofs.Holding.{holds_stands, stands_holds, symbols_stand, empty_taken, Within, fits_within}
+use Rattle.set.proofs.Lists.{KeepsAll-append, keeps_append, KeepsAll-unless, keeps_unless, KeepsAll-when, keeps_when, KeepsAll-standing, keeps_standing, none_broken, all_kept}
 use Rattle.set.proofs.Obeying.{Obeys, brought_from}
 
 -- what the five lists ask, without their lists
@@ -26,7 +26,7 @@ module _ (t : Tree) (m : Message) (f : Formed t) where
   own_cardinality s = cardinality s (bounds_in s t) ∷ []
 
   abbrev own_order : ℕ → ℕ → List Rule
-  own_order a b = where_so (ordered a b t) (order a b)
+  own_order a b = when (ordered a b t) (order a b)
 
   does_five : KeepsAll (five t) m → Does t m
   does_five (upper, rest) =
@@ -40,7 +40,7 @@ module _ (t : Tree) (m : Message) (f : Formed t) where
           brought = brought;
           in_order = λ a b p q.
               let from_a = KeepsAll-standing m t f (λ a. order_rules_from a t) orders a p in
-              KeepsAll-where_so m (ordered a b t) (order a b) (KeepsAll-standing m t f (own_order a) from_a b q);
+              KeepsAll-when m (ordered a b t) (order a b) (KeepsAll-standing m t f (own_order a) from_a b q);
         },
       )
 
@@ -49,7 +49,7 @@ module _ (t : Tree) (m : Message) (f : Formed t) where
       let lower = keeps_unless m (takes_empty t) (lower_bound (symbols_in t)) (λ e. has_some t m f w (filled e)) in
       let counts = keeps_standing m t f own_cardinality (λ s p. (o.counted s p, tt)) in
       let orders = keeps_standing m t f (λ a. order_rules_from a t) (λ a p.
-      keeps_standing m t f (own_order a) (λ b q. keeps_where_so m (ordered a b t) (order a b) (o.in_order a b p q))) in (
+      keeps_standing m t f (own_order a) (λ b q. keeps_when m (ordered a b t) (order a b) (o.in_order a b p q))) in (
         (λ s h. (symbols_stand t f s).1 (w s h)),
         keeps_append m (lower_bound_rules t) _ lower (keeps_append m (cardinality_rules t) _ counts (keeps_append m (co_occurrence_rules t) (order_rules t) o.brought orders)),
       )
@@ -122,3 +122,6 @@ five_fit t m f c = (
       (kept_undenied t m f (none_broken (λ n. n ≡ m) (Breaks m) (λ rule n e b. subst (λ k. Breaks k rule) e b) (five t) none m refl))),
   (λ h. all_kept (λ n. n ≡ m) (Breaks m) (λ rule b. (m, refl, b)) (five t) (λ n e. subst (KeepsAll (five t)) (sym e) ((five_exact t f c m).1 h))),
 )
+
+pub values_tell : ValuesTell
+values_tell t f = (empty_taken t f, symbols_stand t f, holds_stands t)

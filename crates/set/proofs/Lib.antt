@@ -1,5 +1,5 @@
 pub mod Sofar
-pub mod Picking
+pub mod Skipping
 pub mod Subjects
 pub mod Holding
 pub mod Lists

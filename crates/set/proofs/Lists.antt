@@ -7,7 +7,7 @@ use Rattle.models.proofs.Occurrences.{Occurs-append, occurs_left, occurs_right}
 use Rattle.models.proofs.Unlike.{some-none}
 use Rattle.parts.specs.Sets.{symbols_below}
 use Rattle.rules.specs.Rules.{Rule, KeepsAll, Breaks, FirstIs}
-use Rattle.set.specs.Five.{for_each, ascending, unless, where_so}
+use Rattle.set.specs.Five.{for_each, ascending, unless, when}
 use Rattle.set.specs.Holding.{symbols_in}
 use Rattle.set.proofs.Holding.{symbols_stand}
 
@@ -28,13 +28,13 @@ module _ (m : Message) where
   keeps_unless true rule h = tt
   keeps_unless false rule h = (h refl, tt)
 
-  pub KeepsAll-where_so : (b : Bool) (rule : Rule) → KeepsAll (where_so b rule) m → b ≡ true → rule.keeps m
-  KeepsAll-where_so true rule h e = h.0
-  KeepsAll-where_so false rule h e = absurd (false≢true e)
+  pub KeepsAll-when : (b : Bool) (rule : Rule) → KeepsAll (when b rule) m → b ≡ true → rule.keeps m
+  KeepsAll-when true rule h e = h.0
+  KeepsAll-when false rule h e = absurd (false≢true e)
 
-  pub keeps_where_so : (b : Bool) (rule : Rule) → (b ≡ true → rule.keeps m) → KeepsAll (where_so b rule) m
-  keeps_where_so true rule h = (h refl, tt)
-  keeps_where_so false rule h = tt
+  pub keeps_when : (b : Bool) (rule : Rule) → (b ≡ true → rule.keeps m) → KeepsAll (when b rule) m
+  keeps_when true rule h = (h refl, tt)
+  keeps_when false rule h = tt
 
   -- a list of symbols is read as a message is
   KeepsAll-for_each : (ss : List ℕ) (rules : ℕ → List Rule) → KeepsAll (for_each ss rules) m → (s : ℕ) → Occurs s ss → KeepsAll (rules s) m

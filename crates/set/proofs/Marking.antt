@@ -11,14 +11,14 @@ use Rattle.models.specs.Trees.Tree.{choice, sequence, interleave}
 use Rattle.summaries.specs.SymbolsOf.{SymbolsAre}
 use Rattle.summaries.proofs.Carried.{standing_are}
 use Rattle.set.specs.Ordering.{OthersAre, BesideIs}
-use Rattle.set.specs.Precedence.{goes_first}
+use Rattle.set.specs.Precedence.{bars}
 use Rattle.set.proofs.Holding.{holds_stands, stands_holds}
 use Rattle.set.proofs.Obeying.{Pair, Crossing, choice_pair, sequence_pair, interleave_pair, ordered_left, ordered_right, ordered_across}
 
 module _ (own : Message → Type 0) (l r t : Tree) (pair : Pair own l r t) (apart : Apart l r) (a : ℕ) where
   -- a and b stand one in each side, and the tree itself orders them
   abbrev Across : ℕ → Type 0
-  Across b = Crossing l r a b × (goes_first t a ≡ true)
+  Across b = Crossing l r a b × (bars t a ≡ true)
 
   -- the set has those of either side and those across
   whole : (left right all : ℕ) → OthersAre a l left → OthersAre a r right

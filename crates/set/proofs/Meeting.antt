@@ -1,11 +1,13 @@
 -- The set of the symbols of a message, as a number. Assumes nothing.
-use Rattle.std.proofs.Common.{◌≡◌, ℕ, ◌^◌, ◌<◌, [], ◌∷◌, sym, inl, inr, ⊎_elim, subst, arith}
+use Rattle.std.proofs.Common.{◌≡◌, ℕ, ◌^◌, ◌<◌, ◌≤◌, [], ◌∷◌, ◌++◌, sym, inl, inr, ⊎_elim, subst, arith}
+use lib.Bits.{bit_or}
 use Rattle.std.proofs.lemmas.Nat.{or_lt}
 use Rattle.parts.specs.Sets.{In, only}
 use Rattle.parts.proofs.SymbolSets.{in_left, in_right, in_either, in_only, only_in, in_none, same_set}
 use Rattle.models.specs.Messages.{Message}
 use Rattle.set.specs.Asking.{SymbolsMet, met_in}
 use Rattle.set.proofs.Sets.{only_small}
+use Rattle.set.proofs.Sofar.{met_more}
 
 pub met_in_is : (m : Message) → SymbolsMet m (met_in m)
 met_in_is [] s = ((λ h. in_none s h), (λ low h. absurd h))
@@ -27,3 +29,7 @@ met_set m set small are = same_set set (met_in m) small (met_small m) (λ s. (
   (λ h. (met_in_is m s).1 h.0 ((are s).0 h)),
   (λ h. (are s).1 h.0 ((met_in_is m s).0 h)),
 ))
+
+pub met_in_more : (m : Message) (x : ℕ) → met_in (m ++ (x ∷ [])) ≡ bit_or (met_in m) (only x)
+met_in_more m x =
+    sym (met_set (m ++ (x ∷ [])) (bit_or (met_in m) (only x)) (or_lt 64 (met_in m) (only x) (met_small m) (only_small x)) (met_more m x (met_in m) (met_in_is m)))

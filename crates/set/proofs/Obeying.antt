@@ -10,7 +10,7 @@ use Rattle.rules.specs.Rules.{KeepsAll}
 use Rattle.set.specs.Bounded.{bounds_in}
 use Rattle.set.specs.Five.{co_occurrence, sides_rules, unless, co_occurrence_rules}
 use Rattle.set.specs.Holding.{holds, symbols_in, takes_empty}
-use Rattle.set.specs.Precedence.{holds_both, smallest, goes_first, ordered}
+use Rattle.set.specs.Precedence.{holds_both, smallest, bars, ordered}
 use Rattle.set.proofs.Agreeing.{Agree, agree_back, agree_occurs, agree_piece, shuffle_swap}
 use Rattle.set.proofs.Holding.{stands_holds, holds_not, symbols_stand, Within}
 use Rattle.set.proofs.Lists.{KeepsAll-append, keeps_append, KeepsAll-unless, keeps_unless}
@@ -37,7 +37,7 @@ Crossing l r a b = (Stands l a × Stands r b) ⊎ (Stands r a × Stands l b)
 
 -- and no such a comes after such a b where the part itself orders them
 abbrev pub SidesOrdered : Tree → Tree → Tree → Message → Type 0
-SidesOrdered l r t m = (a b : ℕ) → Crossing l r a b → goes_first t a ≡ true → After a b m → ⊥
+SidesOrdered l r t m = (a b : ℕ) → Crossing l r a b → bars t a ≡ true → After a b m → ⊥
 
 -- the tree t has the sides l and r, and asks what they ask and `own`
 pub record Pair (own : Message → Type 0) (l r t : Tree) : Type 0 where
@@ -142,7 +142,7 @@ module _ (own : Message → Type 0) (l r t : Tree) (pair : Pair own l r t) (apar
 
   pub ordered_left : (a b : ℕ) → Stands l a → Stands l b → ordered a b t ≡ ordered a b l
   ordered_left a b p q =
-      ap (λ u. goes_first u a) (pair.part a b ∙ cond-true (holds_both a b l) _ _ (and_from _ _ (stands_holds l a p) (stands_holds l b q)))
+      ap (λ u. bars u a) (pair.part a b ∙ cond-true (holds_both a b l) _ _ (and_from _ _ (stands_holds l a p) (stands_holds l b q)))
 
   not_left : (a b : ℕ) → (Stands l a → ⊥) ⊎ (Stands l b → ⊥) → smallest a b t ≡ cond (holds_both a b r) (smallest a b r) t
   not_left a b h =
@@ -150,13 +150,13 @@ module _ (own : Message → Type 0) (l r t : Tree) (pair : Pair own l r t) (apar
 
   pub ordered_right : (a b : ℕ) → Stands r a → Stands r b → ordered a b t ≡ ordered a b r
   ordered_right a b p q =
-      ap (λ u. goes_first u a) (not_left a b (inl (λ z. apart a z p)) ∙ cond-true (holds_both a b r) _ _ (and_from _ _ (stands_holds r a p) (stands_holds r b q)))
+      ap (λ u. bars u a) (not_left a b (inl (λ z. apart a z p)) ∙ cond-true (holds_both a b r) _ _ (and_from _ _ (stands_holds r a p) (stands_holds r b q)))
 
-  pub ordered_across : (a b : ℕ) → Crossing l r a b → ordered a b t ≡ goes_first t a
+  pub ordered_across : (a b : ℕ) → Crossing l r a b → ordered a b t ≡ bars t a
   ordered_across a b (inl (p, q)) =
-      ap (λ u. goes_first u a) (not_left a b (inr (λ z. apart b z q)) ∙ cond-false (holds_both a b r) _ _ (and_left _ _ (holds_not r a (λ z. apart a p z))))
+      ap (λ u. bars u a) (not_left a b (inr (λ z. apart b z q)) ∙ cond-false (holds_both a b r) _ _ (and_left _ _ (holds_not r a (λ z. apart a p z))))
   ordered_across a b (inr (p, q)) =
-      ap (λ u. goes_first u a) (not_left a b (inl (λ z. apart a z p)) ∙ cond-false (holds_both a b r) _ _ (and_right (holds a r) _ (holds_not r b (λ z. apart b q z))))
+      ap (λ u. bars u a) (not_left a b (inl (λ z. apart a z p)) ∙ cond-false (holds_both a b r) _ _ (and_right (holds a r) _ (holds_not r b (λ z. apart b q z))))
 
   pub obeys_parts : (m : Message) → Obeys t m → Obeys l m × Obeys r m × own m × SidesOrdered l r t m
   obeys_parts m o =

@@ -1,5 +1,5 @@
 -- A message so far: what its symbols are with one more. Assumes nothing.
-use Rattle.std.proofs.Common.{◌≡◌, ℕ, ◌+◌, [], ◌∷◌, ◌++◌, length, Some, None, Option, sym, refl, ap, ◌∙◌, subst, inl, inr, ⊎_elim, arith}
+use Rattle.std.proofs.Common.{◌≡◌, ℕ, zero, suc, ◌+◌, ◌<◌, ◌≤◌, [], ◌∷◌, ◌++◌, length, get_or, Some, None, Option, sym, refl, ap, ◌∙◌, subst, inl, inr, ⊎_elim, arith}
 use lib.Bits.{bit_or}
 use Rattle.std.proofs.lemmas.List.{append_assoc}
 use Rattle.models.specs.Messages.{Message, Occurs, occurrences}
@@ -7,15 +7,23 @@ use Rattle.models.proofs.Counted.{counted_append, counted_same, counted_other}
 use Rattle.models.proofs.Occurrences.{Occurs-append, occurs_left, occurs_right}
 use Rattle.parts.proofs.SymbolSets.{in_left, in_right, in_either, in_only, only_in}
 use Rattle.parts.specs.Sets.{In, only}
-use Rattle.set.specs.Asking.{SymbolsMet, AllIn, LastAt}
+use Rattle.set.specs.Asking.{SymbolsMet, AllIn, NoneIn, LastAt}
 
 one_occurs : (s x : ℕ) → Occurs s (x ∷ []) → x ≡ s
 one_occurs s x (inl e) = e
 one_occurs s x (inr h) = absurd h
 
+pub occurs_at : (m : Message) (i : ℕ) → i < length m → Occurs (get_or m i 0) m
+occurs_at [] i within = absurd (omega arith)
+occurs_at (x ∷ m) zero within = inl refl
+occurs_at (x ∷ m) (suc i) within = inr (occurs_at m i (omega arith))
+
 module _ (m : Message) (x : ℕ) where
   pub all_in_more : (set : ℕ) → AllIn set m → In set x → AllIn set (m ++ (x ∷ []))
   all_in_more set all has s h = ⊎_elim (all s) (λ z. subst (In set) (one_occurs s x z) has) (Occurs-append s m (x ∷ []) h)
+
+  pub none_in_more : (set : ℕ) → NoneIn set m → (In set x → ⊥) → NoneIn set (m ++ (x ∷ []))
+  none_in_more set none out s has h = ⊎_elim (none s has) (λ z. out (subst (In set) (sym (one_occurs s x z)) has)) (Occurs-append s m (x ∷ []) h)
 
   pub met_more : (set : ℕ) → SymbolsMet m set → SymbolsMet (m ++ (x ∷ [])) (bit_or set (only x))
   met_more set met s = (

@@ -1,13 +1,13 @@
 -- What rules a message breaks, and what rules some message of a model breaks. Assumes nothing.
-use Rattle.std.proofs.Common.{◌≡◌, ℕ, ◌<◌, ◌≤◌, Bool, true, false, not, take, is_some, Decides, List, [], ◌∷◌, ◌++◌, Some, None, Option, sym, refl, ap, ◌∙◌, subst, inl, inr, arith}
+use Rattle.std.proofs.Common.{◌≡◌, ℕ, ◌<◌, ◌≤◌, Bool, true, false, not, take, Decides, List, [], ◌∷◌, ◌++◌, length, Some, None, Option, sym, refl, ap, ◌∙◌, subst, inl, inr, arith}
 use lib.Bits.{bit_and}
 use Rattle.std.proofs.lemmas.List.{take_at}
-use Rattle.std.proofs.lemmas.Bool.{both_ways, false≢true}
+use Rattle.std.proofs.lemmas.Bool.{cases_Bool, both_ways, false≢true}
 use Rattle.parts.specs.declared.part.Repeats.{Repeats}
 use Rattle.parts.specs.Sets.{In, EmptyIs, DifferenceIs, members}
 use Rattle.parts.proofs.SymbolSets.{cases_in, both_in, in_both}
 use Rattle.models.specs.Messages.{Message, Occurs, HasOneOf, occurrences, After}
-use Rattle.models.specs.Trees.{Tree, Fits, Between}
+use Rattle.models.specs.Trees.{Tree, Fits, Between, Formed}
 use Rattle.models.proofs.Occurrences.{occurs_right}
 use Rattle.models.proofs.Counted.{counted_some, some_counted}
 use Rattle.models.proofs.Ordered.{After-append, after_across}
@@ -15,17 +15,24 @@ use Rattle.rules.specs.Rules.{Rule, Breaks, SomeBreaks, FirstIs}
 use Rattle.rules.specs.declared.verdict.Verdict.{Verdict}
 use Rattle.summaries.specs.Always.{Always}
 use Rattle.summaries.specs.SymbolsOf.{SymbolsAre}
+use Rattle.summaries.proofs.Carried.{carried_stands}
 use Rattle.summaries.specs.Orders.{Reverses}
-use Rattle.set.specs.Asking.{SymbolsMet, FirstOutside, LastAt}
+use Rattle.set.specs.Asking.{met_in, SymbolsMet, FirstOutside, LastAt}
 use Rattle.set.specs.Five.{upper_bound, cardinality, co_occurrence, order}
-use Rattle.set.specs.Subjects.{orders_after}
-use Rattle.set.proofs.Picking.{none_each, named, picked}
+use Rattle.set.specs.Subjects.{OthersKept, orders_after}
+use Rattle.set.specs.Holding.{symbols_in}
+use Rattle.set.proofs.Holding.{symbols_stand}
+use Rattle.set.proofs.Agreeing.{after_first, after_second}
+use Rattle.set.proofs.Meeting.{met_in_is}
+use Rattle.set.proofs.Skipping.{none_each, passed, member_in}
 
--- a message breaks the upper bound where it has a first symbol outside
-pub outside_breaks : (set : ℕ) (m : Message) (place : Option ℕ) → FirstOutside set m place → Decides (is_some place) (Breaks m (upper_bound set))
-outside_breaks set m None all = ((λ e. absurd (false≢true e)), (λ breaks. absurd (breaks all)))
-outside_breaks set m (Some k) (before, s, after, e, long, out, some) =
-    ((λ t all. out (all s (subst (Occurs s) (sym e) (occurs_right s before (s ∷ after) (inl refl))))), (λ breaks. refl))
+-- a message breaks the upper bound exactly where it has a first symbol outside
+pub all_inside : (set : ℕ) (m : Message) → FirstOutside set m None → FirstIs (Breaks m) (upper_bound set ∷ []) None
+all_inside set m all = inr ((λ breaks. breaks all), refl)
+
+pub one_outside : (set : ℕ) (m : Message) (k : ℕ) → FirstOutside set m (Some k) → FirstIs (Breaks m) (upper_bound set ∷ []) (Some ((upper_bound set).verdict))
+one_outside set m k (before, s, after, e, long, out, some) =
+    inl ((λ all. out (all s (subst (Occurs s) (sym e) (occurs_right s before (s ∷ after) (inl refl))))), refl)
 
 -- it has a symbol of the set where the symbols of both are not none
 pub met_has : (set met both : ℕ) (m : Message) (none : Bool) → both ≡ bit_and met set → SymbolsMet m met → EmptyIs none both → Decides (not none) (HasOneOf set m)
@@ -38,48 +45,49 @@ met_has set met both m false e are (s, h) =
     ((λ t. (s, y, (are s).0 x)), (λ t. refl))
 
 -- what a comes after, where its last place is known
-later : (a b : ℕ) (m : Message) → After a b m → Occurs a m
-later a b [] h = absurd h
-later a b (x ∷ m) (inl (e, h)) = inr h
-later a b (x ∷ m) (inr h) = inr (later a b m h)
-
-earlier : (a b : ℕ) (m : Message) → After a b m → Occurs b m
-earlier a b [] h = absurd h
-earlier a b (x ∷ m) (inl (e, h)) = inl e
-earlier a b (x ∷ m) (inr h) = inr (earlier a b m h)
-
 last_after : (a b : ℕ) (before after : Message) → (Occurs a after → ⊥) → After a b (before ++ (a ∷ after)) → Occurs b before
 last_after a b before after none h =
     elim (After-append a b before (a ∷ after) h) [
-      | inl (inl z) ↦ earlier a b before z
+      | inl (inl z) ↦ after_second a b before z
       | inl (inr (inl (e, z))) ↦ absurd (none z)
-      | inl (inr (inr z)) ↦ absurd (none (later a b after z))
+      | inl (inr (inr z)) ↦ absurd (none (after_first a b after z))
       | inr (z, g) ↦ z
     ]
 
 -- a message without a keeps every rule that a does not come after
 pub orders_kept : (a set : ℕ) (m : Message) → LastAt a m None → FirstIs (Breaks m) (orders_after a set) None
-orders_kept a set m none = none_each (Breaks m) (λ b. order a b ∷ []) _ (λ b. inr ((λ breaks. breaks (λ h. none (later a b m h))), refl))
+orders_kept a set m none = none_each (Breaks m) (λ b. order a b ∷ []) _ (λ b. inr ((λ breaks. breaks (λ h. none (after_first a b m h))), refl))
 
 -- one with a breaks those of what stands before the last a
-module _ (a set met both k : ℕ) (m : Message) (last : LastAt a m (Some k)) (are : SymbolsMet (take k m) met) (same : both ≡ bit_and met set) where
-  orders_broken : FirstIs (Breaks m) (orders_after a set) (named (Breaks m) (order a) (members both))
-  orders_broken =
+module _ (a set met both k : ℕ) (m : Message) (last : LastAt a m (Some k)) (met_is : met ≡ met_in (take k m)) (same : both ≡ bit_and met set) where
+  are : SymbolsMet (take k m) met
+  are = subst (SymbolsMet (take k m)) (sym met_is) (met_in_is (take k m))
+
+  start : (before after : Message) → m ≡ before ++ (a ∷ after) → length before ≡ k → take k m ≡ before
+  start before after e long = ap (take k) e ∙ take_at before (a ∷ after) k long
+
+  both_broken : (b : ℕ) → In both b → Breaks m (order a b)
+  both_broken b h =
       let (before, after, e, long, none) = last in
-      let start : take k m ≡ before = ap (take k) e ∙ take_at before (a ∷ after) k long in
-      rw same (picked (Breaks m) (order a) set (bit_and met set)
-      (λ b h.
-      let (x, y) = in_both met set b h in
-      (y, λ kept. kept (subst (After a b) (sym e) (after_across a b before (a ∷ after) (subst (Occurs b) start ((are b).0 x)) (inl refl)))))
-      (λ b has out breaks. breaks (λ h.
+      let (x, y) = in_both met set b (subst (λ n. In n b) same h) in
+      λ kept. kept (subst (After a b) (sym e) (after_across a b before (a ∷ after) (subst (Occurs b) (start before after e long) ((are b).0 x)) (inl refl)))
+
+  others_not : (b : ℕ) → In set b → (In both b → ⊥) → FirstIs (Breaks m) (order a b ∷ []) None
+  others_not b has out =
+      let (before, after, e, long, none) = last in
+      let kept : After a b m → ⊥ = λ h.
       let early = last_after a b before after none (subst (After a b) e h) in
-      out (both_in met set b ((are b).1 has.0 (subst (Occurs b) (sym start) early)) has))))
+      out (subst (λ n. In n b) (sym same) (both_in met set b ((are b).1 has.0 (subst (Occurs b) (sym (start before after e long)) early)) has)) in
+      inr ((λ breaks. breaks kept), refl)
+
+  among : (answer : Option Verdict) → FirstIs (Breaks m) (orders_after a both) answer → FirstIs (Breaks m) (orders_after a set) answer
+  among = passed (Breaks m) (λ b. order a b ∷ []) (λ b. order a b ∷ []) set both (λ b h. (in_both met set b (subst (λ n. In n b) same h)).1) (λ b h answer first. first) others_not
 
   pub orders_none : members both ≡ [] → FirstIs (Breaks m) (orders_after a set) None
-  orders_none e = rw e at orders_broken
+  orders_none e = among None (rw e refl)
 
   pub orders_some : (b : ℕ) (bs : List ℕ) → members both ≡ b ∷ bs → FirstIs (Breaks m) (orders_after a set) (Some ((order a b).verdict))
-  orders_some b bs e = rw e at orders_broken
+  orders_some b bs e = among _ (rw e (inl (both_broken b (member_in both b bs e), refl)))
 
 -- how often a symbol occurs breaks its bounds
 module _ (s n : ℕ) (bounds : Repeats) (m : Message) (count : n ≡ occurrences s m) where
@@ -91,34 +99,51 @@ module _ (s n : ℕ) (bounds : Repeats) (m : Message) (count : n ≡ occurrences
   outside_bounds false some (f, g) =
       ((λ e kept. false≢true (g (subst (Between bounds.low bounds.high) (sym count) (kept (some_counted s m (omega arith)))))), (λ breaks. refl))
 
--- some message of a tree has a symbol outside a set where its symbols are not all in the set
-pub carried_outside : (t : Tree) (symbols set outside : ℕ) (none : Bool) → SymbolsAre t symbols → DifferenceIs symbols set outside → EmptyIs none outside
-    → Decides (not none) (SomeBreaks t (upper_bound set))
-carried_outside t symbols set outside true are others none = (
-  (λ e. absurd (false≢true e)),
-  (λ (m, fit, breaks). absurd (breaks (λ s h. elim (cases_in set s) [
-    | inl has ↦ has
-    | inr out ↦ absurd (none s ((others s).1 ((are s).1 (m, fit, h), out)))
-  ]))),
-)
-carried_outside t symbols set outside false are others (s, h) =
-    let (has, out) = (others s).0 h in
-    let (m, fit, occurs) = (are s).0 has in
-    ((λ e. (m, fit, λ all. out (all s occurs))), (λ e. refl))
+-- and some message of a tree does exactly where its symbols are not all in the set
+module _ (t : Tree) (symbols set outside : ℕ) (are : SymbolsAre t symbols) (others : DifferenceIs symbols set outside) where
+  pub none_outside : EmptyIs true outside → FirstIs (SomeBreaks t) (upper_bound set ∷ []) None
+  none_outside none = inr (
+    (λ (m, fit, breaks). breaks (λ s h. elim (cases_in set s) [
+      | inl has ↦ has
+      | inr out ↦ absurd (none s ((others s).1 ((are s).1 (m, fit, h), out)))
+    ])),
+    refl,
+  )
+
+  pub some_outside : EmptyIs false outside → FirstIs (SomeBreaks t) (upper_bound set ∷ []) (Some ((upper_bound set).verdict))
+  some_outside (s, h) =
+      let (has, out) = (others s).0 h in
+      let (m, fit, occurs) = (are s).0 has in
+      inl ((m, fit, λ all. out (all s occurs)), refl)
 
 pub brings_breaks : (t : Tree) (first second : ℕ) (brings : Bool) → Always brings (λ m. Fits t m × HasOneOf first m) (HasOneOf second)
     → Decides (not brings) (SomeBreaks t (co_occurrence first second))
 brings_breaks t first second true always = ((λ e. absurd (false≢true e)), (λ (m, fit, breaks). absurd (breaks (λ h. always m (fit, h)))))
 brings_breaks t first second false (m, (fit, has), none) = ((λ e. (m, fit, λ kept. none (kept has))), (λ h. refl))
 
--- the rules that a does not come after one of `rest` are all that are left to ask
-abbrev pub Left : (Rule → Type 0) → ℕ → ℕ → ℕ → Type 0
-Left P a all rest = (answer : Option Verdict) → FirstIs P (orders_after a rest) answer → FirstIs P (orders_after a all) answer
+-- the rules about symbols that a message does not have
+pub others_kept : (m : Message) (met : ℕ) → SymbolsMet m met → OthersKept (Breaks m) met
+others_kept m met are s low out =
+    let none : Occurs s m → ⊥ = λ h. out ((are s).1 low h) in
+    ((λ bounds breaks. breaks (λ h. absurd (none h))), (λ b breaks. breaks (λ h. none (after_first s b m h))))
 
-module _ (t : Tree) (a all old new b : ℕ) (after : Bool) (left : Left (SomeBreaks t) a all old) (taken : members old ≡ b ∷ members new) (asked : Decides after (Reverses t a b)) where
-  pub left_broken : after ≡ true → FirstIs (SomeBreaks t) (orders_after a all) (Some ((order a b).verdict))
-  left_broken e = let (m, fit, h) = asked.0 e in left _ (rw taken (inl ((m, fit, λ kept. kept h), refl)))
+-- and about those that no message of a tree has
+module _ (t : Tree) (f : Formed t) where
+  carried_in : (s : ℕ) (m : Message) → Fits t m → Occurs s m → In (symbols_in t) s
+  carried_in s m fit h = (symbols_stand t f s).1 (carried_stands t s (m, fit, h))
 
-  pub left_more : after ≡ false → Left (SomeBreaks t) a all new
-  left_more e answer rest =
-      left answer (rw taken (inr ((λ (m, fit, breaks). breaks (λ h. both_ways after e (asked.1 (m, fit, h)))), rest)))
+  pub others_unbroken : OthersKept (SomeBreaks t) (symbols_in t)
+  others_unbroken s low out = (
+    (λ bounds (m, fit, breaks). breaks (λ h. absurd (out (carried_in s m fit h)))),
+    (λ b (m, fit, breaks). breaks (λ h. out (carried_in s m fit (after_first s b m h)))),
+  )
+
+  pub uncarried : (a b : ℕ) → (In (symbols_in t) b → ⊥) → FirstIs (SomeBreaks t) (order a b ∷ []) None
+  uncarried a b out = inr ((λ (m, fit, breaks). breaks (λ h. out (carried_in b m fit (after_second a b m h)))), refl)
+
+-- a rule of order is broken exactly where its symbols can stand the other way round
+pub reversed_breaks : (t : Tree) (a b : ℕ) (after : Bool) → Decides after (Reverses t a b) → Decides after (SomeBreaks t (order a b))
+reversed_breaks t a b after (asked, reversed) = (
+  (λ e. let (m, fit, h) = asked e in (m, fit, λ kept. kept h)),
+  (λ (m, fit, breaks). elim (cases_Bool after) [ inl e ↦ e | inr e ↦ absurd (breaks (λ h. both_ways after e (reversed (m, fit, h)))) ]),
+)

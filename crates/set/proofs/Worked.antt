@@ -12,6 +12,7 @@ use Rattle.models.proofs.Occurrences.{occurs_left, occurs_right, shuffle_occurs_
 use Rattle.models.proofs.Ordered.{After-Shuffle}
 use Rattle.rules.specs.Rules.{Rule, KeepsAll, SomeBreaks, FirstIs}
 use Rattle.summaries.proofs.Carried.{carried_stands}
+use Rattle.models.specs.Conflicts.{first_conflict_of}
 use Rattle.set.specs.Exact.{FiveInclude, Included}
 use Rattle.set.specs.Five.{verdict, five, upper_bound, lower_bound, cardinality, co_occurrence, order}
 use Rattle.set.specs.Worked.{a, b, c, maybe_a, maybe_b, Answered, WorkedPairs}
@@ -45,19 +46,26 @@ sequence_shuffled l r m (u, v, e, f, g) = (u, v, subst (Shuffle u v) e (Shuffle-
 -- where every message fits, no rule is broken
 module _ (include : FiveInclude) where
   first_pair : Answered (count (count a 1 2) 1 2) (count a 1 4) None
-  first_pair =
-      (include (count (count a 1 2) 1 2) (count a 1 4) (omega arith, (omega arith, omega arith, inr (omega arith, omega arith))) refl).1 included_counts
+  first_pair = (
+    refl,
+    (include (count (count a 1 2) 1 2) (count a 1 4) (omega arith, (omega arith, omega arith, inr (omega arith, omega arith))) refl).1 included_counts,
+  )
 
   fifth_pair : Answered (sequence a b) (interleave a b) None
-  fifth_pair = (include (sequence a b) (interleave a b) (omega arith, omega arith) (tt, tt, λ s h g. omega arith)).1 (sequence_shuffled a b)
+  fifth_pair = (
+    refl,
+    (include (sequence a b) (interleave a b) (omega arith, omega arith) (tt, tt, λ s h g. omega arith)).1 (sequence_shuffled a b),
+  )
 
   eighth_pair : Answered (nonempty (sequence maybe_a maybe_b)) (nonempty (interleave maybe_a maybe_b)) None
   eighth_pair =
-      let alone : (s : ℕ) → Stands maybe_a s → Stands maybe_b s → ⊥ = λ s h g. ⊎_elim (λ x. ⊎_elim (λ y. omega arith) (λ y. y) g) (λ x. x) h in
-      (include (nonempty (sequence maybe_a maybe_b)) (nonempty (interleave maybe_a maybe_b))
-      (((omega arith, tt), (omega arith, tt)), refl)
-      ((tt, tt, λ s h g. g), (tt, tt, λ s h g. g), alone)).1
-      (λ m (f, some). (sequence_shuffled maybe_a maybe_b m f, some))
+      let alone : (s : ℕ) → Stands maybe_a s → Stands maybe_b s → ⊥ = λ s h g. ⊎_elim (λ x. ⊎_elim (λ y. omega arith) (λ y. y) g) (λ x. x) h in (
+        refl,
+        (include (nonempty (sequence maybe_a maybe_b)) (nonempty (interleave maybe_a maybe_b))
+            (((omega arith, tt), (omega arith, tt)), refl)
+            ((tt, tt, λ s h g. g), (tt, tt, λ s h g. g), alone)).1
+            (λ m (f, some). (sequence_shuffled maybe_a maybe_b m f, some)),
+      )
 
 -- every message of the tree keeps each of the rules
 abbrev Keeps : Tree → List Rule → Type 0
@@ -71,9 +79,11 @@ first_broken sent (r ∷ rs) rule after kept broken =
     inr ((λ (m, f, breaks). breaks (kept m f).0), first_broken sent rs rule after (λ m f. (kept m f).1) broken)
 
 answered : (sent expected : Tree) (before : List Rule) (rule : Rule) (after : List Rule) → before ++ (rule ∷ after) ≡ five expected
-    → Keeps sent before → SomeBreaks sent rule → Answered sent expected (Some rule.verdict)
-answered sent expected before rule after e kept broken =
-    subst (λ rules. FirstIs (SomeBreaks sent) rules (Some rule.verdict)) e (first_broken sent before rule after kept broken)
+    → first_conflict_of expected ≡ None → Keeps sent before → SomeBreaks sent rule → Answered sent expected (Some rule.verdict)
+answered sent expected before rule after e free kept broken = (
+  free,
+  subst (λ rules. FirstIs (SomeBreaks sent) rules (Some rule.verdict)) e (first_broken sent before rule after kept broken),
+)
 
 -- the symbols of a message are in a set where those that stand in its tree are
 within : (t : Tree) (set : ℕ) → ((s : ℕ) → Stands t s → In set s) → (m : Message) → Fits t m → (s : ℕ) → Occurs s m → In set s
@@ -108,7 +118,7 @@ second_pair =
     let two : Fits (count a 1 2) (0 ∷ 0 ∷ []) = (2, (omega arith, inr (omega arith)), joined_repeated (Fits a) (0 ∷ []) refl 2) in
     let six : Fits sent (repeated 3 (0 ∷ 0 ∷ [])) = (3, (omega arith, inr (omega arith)), joined_repeated (Fits (count a 1 2)) (0 ∷ 0 ∷ []) two 3) in
     let broken : SomeBreaks sent rule = (repeated 3 (0 ∷ 0 ∷ []), six, λ k. ⊎_elim (λ e. omega arith) (λ h. omega arith) (k (inl refl)).1) in
-    answered sent (count a 1 5) before rule [] refl kept broken
+    answered sent (count a 1 5) before rule [] refl refl kept broken
 
 -- the empty message has no a
 third_pair : Answered (count maybe_a 1 3) (count a 1 3) (Some (verdict 2 (only 0) 0 0 0))
@@ -119,7 +129,7 @@ third_pair =
     let kept : Keeps sent before = λ m f. (within sent 1 (λ s h. (omega arith, grind arith)) m f, tt) in
     let none : Fits sent [] = (1, (omega arith, inr (omega arith)), ([], [], refl, inr refl, refl)) in
     let broken : SomeBreaks sent (lower_bound 1) = ([], none, λ (s, i, h). h) in
-    answered sent (count a 1 3) before (lower_bound 1) (cardinality 0 record { low = 1; high = 3 } ∷ []) refl kept broken
+    answered sent (count a 1 3) before (lower_bound 1) (cardinality 0 record { low = 1; high = 3 } ∷ []) refl refl kept broken
 
 -- in abab an a comes after a b
 fourth_pair : Answered (count (sequence a b) 1 0) (sequence (count a 1 0) (count b 1 0)) (Some (verdict 5 (only 0) (only 1) 0 0))
@@ -137,7 +147,7 @@ fourth_pair =
     let kept : Keeps sent before = λ m f. (within sent 3 (λ s h. (omega arith, grind arith)) m f, (any_one m f, (counted 0 m, (counted 1 m, (λ h. b_one m f, (λ h. a_one m f, tt)))))) in
     let abab : Fits sent (repeated 2 (0 ∷ 1 ∷ [])) = (2, (omega arith, inl refl), joined_repeated (Fits (sequence a b)) (0 ∷ 1 ∷ []) (0 ∷ [], 1 ∷ [], refl, refl, refl) 2) in
     let broken : SomeBreaks sent (order 0 1) = (repeated 2 (0 ∷ 1 ∷ []), abab, λ k. k (inr (inl (refl, inl refl)))) in
-    answered sent (sequence (count a 1 0) (count b 1 0)) before (order 0 1) [] refl kept broken
+    answered sent (sequence (count a 1 0) (count b 1 0)) before (order 0 1) [] refl refl kept broken
 
 -- the rules of ab or c up to the third family
 abbrev bounds : List Rule
@@ -167,7 +177,7 @@ sixth_pair =
     let kept : Keeps sent bounds = λ m f. bounds_kept m (within sent 7 (λ s h. (omega arith, grind arith)) m f) (has_one m f) (most 0 m f) (most 1 m f) (most 2 m f) in
     let no_b : HasOneOf 2 (0 ∷ []) → ⊥ = λ (s, i, h). let e = in_only 1 s i in grind arith in
     let broken : SomeBreaks sent (co_occurrence 1 2) = (0 ∷ [], inl refl, λ k. no_b (k (0, (omega arith, refl), inl refl))) in
-    answered sent (choice (sequence a b) c) bounds (co_occurrence 1 2) rest refl kept broken
+    answered sent (choice (sequence a b) c) bounds (co_occurrence 1 2) rest refl refl kept broken
 
 -- a message of ab and c is a shuffle of the two
 shuffled : (m : Message) → Fits (interleave (sequence a b) c) m → Shuffle (0 ∷ 1 ∷ []) (2 ∷ []) m
@@ -204,7 +214,7 @@ seventh_pair =
     let kept : Keeps sent (bounds ++ brought) = λ m f. keeps_both bounds brought m (bounds_all m f) (brought_kept m (shuffled m f)) in
     let cab : Fits sent (2 ∷ 0 ∷ 1 ∷ []) = (0 ∷ 1 ∷ [], 2 ∷ [], Shuffle-append_back (0 ∷ 1 ∷ []) (2 ∷ []), (0 ∷ [], 1 ∷ [], refl, refl, refl), refl) in
     let broken : SomeBreaks sent (order 0 2) = (2 ∷ 0 ∷ 1 ∷ [], cab, λ k. k (inl (refl, inl refl))) in
-    answered sent (choice (sequence a b) c) (bounds ++ brought) (order 0 2) rest refl kept broken
+    answered sent (choice (sequence a b) c) (bounds ++ brought) (order 0 2) rest refl refl kept broken
 
 pub worked_pairs : FiveInclude → WorkedPairs
 worked_pairs include = (first_pair include, second_pair, third_pair, fourth_pair, fifth_pair include, sixth_pair, seventh_pair, eighth_pair include)

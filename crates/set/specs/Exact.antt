@@ -1,10 +1,12 @@
 -- What the five families say together. Assumes nothing.
-use Rattle.std.specs.Prelude.{None}
+use Rattle.std.specs.Prelude.{ℕ, [], None, Decides}
 use Rattle.models.specs.Conflicts.{ConflictFree}
 use Rattle.models.specs.Messages.{Message}
-use Rattle.models.specs.Trees.{Tree, Fits, Formed}
+use Rattle.models.specs.Trees.{Tree, Fits, Stands, Formed}
 use Rattle.rules.specs.Rules.{KeepsAll, Breaks, SomeBreaks, FirstIs}
+use Rattle.summaries.specs.SymbolsOf.{StandingAre}
 use Rattle.set.specs.Five.{five}
+use Rattle.set.specs.Holding.{holds, symbols_in, takes_empty}
 
 -- a message keeps all rules of the five lists exactly when it fits
 abbrev pub Exact : Tree → Type 0
@@ -32,3 +34,7 @@ FiveInclude = (sent expected : Tree) → Formed expected → ConflictFree expect
 
 abbrev pub FiveFit : Type 0
 FiveFit = (t : Tree) (m : Message) → Formed t → ConflictFree t → FitsExactly t m
+
+-- what is worked out of a well-formed tree says what is so of its parts and messages
+abbrev pub ValuesTell : Type 0
+ValuesTell = (t : Tree) → Formed t → Decides (takes_empty t) (Fits t []) × StandingAre t (symbols_in t) × ((s : ℕ) → Decides (holds s t) (Stands t s))

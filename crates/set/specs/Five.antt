@@ -31,9 +31,9 @@ unless true rule = []
 unless false rule = rule ∷ []
 
 -- one rule where the test says yes
-abbrev pub where_so : Bool → Rule → List Rule
-where_so true rule = rule ∷ []
-where_so false rule = []
+abbrev pub when : Bool → Rule → List Rule
+when true rule = rule ∷ []
+when false rule = []
 
 -- 1: every symbol of the message is in the set
 abbrev pub upper_bound : ℕ → Rule
@@ -84,7 +84,7 @@ order a b = record { verdict = verdict 5 (only a) (only b) 0 0; keeps = λ m. Af
 
 -- the rules of the pairs that begin with a
 abbrev pub order_rules_from : ℕ → Tree → List Rule
-order_rules_from a t = for_each (ascending t) (λ b. where_so (ordered a b t) (order a b))
+order_rules_from a t = for_each (ascending t) (λ b. when (ordered a b t) (order a b))
 
 abbrev pub order_rules : Tree → List Rule
 order_rules t = for_each (ascending t) (λ a. order_rules_from a t)

@@ -18,17 +18,17 @@ smallest a b (interleave l r) = cond (holds_both a b l) (smallest a b l) (cond (
 smallest a b (count t low high) = smallest a b t
 smallest a b (nonempty t) = smallest a b t
 
--- whether the symbol a of one side goes before what the other side holds: the part is a
--- choice, or a sequence with a on the left
-abbrev pub goes_first : Tree → ℕ → Bool
-goes_first empty a = false
-goes_first (symbol s) a = false
-goes_first (choice l r) a = true
-goes_first (sequence l r) a = holds a l
-goes_first (interleave l r) a = false
-goes_first (count t low high) a = false
-goes_first (nonempty t) a = false
+-- whether the part itself bars a symbol a of one side from coming after one of the other: it
+-- is a choice, or a sequence with a on the left
+abbrev pub bars : Tree → ℕ → Bool
+bars empty a = false
+bars (symbol s) a = false
+bars (choice l r) a = true
+bars (sequence l r) a = holds a l
+bars (interleave l r) a = false
+bars (count t low high) a = false
+bars (nonempty t) a = false
 
 -- no a may come after a b
 abbrev pub ordered : ℕ → ℕ → Tree → Bool
-ordered a b t = goes_first (smallest a b t) a
+ordered a b t = bars (smallest a b t) a

@@ -1,11 +1,12 @@
 -- Pairs of a sent and an expected model, with what is answered of them. Assumes nothing.
-use Rattle.std.specs.Prelude.{Some, None, Option}
+use Rattle.std.specs.Prelude.{Some, None, Ok, Option}
 use Rattle.parts.specs.Sets.{only}
 use Rattle.models.specs.Trees.{Tree}
 use Rattle.models.specs.Trees.Tree.{empty, symbol, choice, sequence, interleave, count, nonempty}
-use Rattle.rules.specs.Rules.{SomeBreaks, FirstIs}
+use Rattle.rules.specs.Rules.{SomeBreaks}
 use Rattle.rules.specs.declared.verdict.Verdict.{Verdict}
-use Rattle.set.specs.Five.{verdict, five}
+use Rattle.set.specs.Five.{verdict}
+use Rattle.set.specs.Trials.{Tried}
 
 abbrev pub a : Tree
 a = symbol 0
@@ -23,9 +24,10 @@ maybe_a = choice a empty
 abbrev pub maybe_b : Tree
 maybe_b = choice b empty
 
--- of the rules of the expected model, the answer is the first that some message of the sent one breaks
+-- the expected model is conflict-free, and of its rules the answer is the first that some
+-- message of the sent one breaks
 abbrev pub Answered : Tree → Tree → Option Verdict → Type 0
-Answered sent expected answer = FirstIs (SomeBreaks sent) (five expected) answer
+Answered sent expected answer = Tried (SomeBreaks sent) expected (Ok answer)
 
 abbrev pub WorkedPairs : Type 0
 WorkedPairs =

@@ -11,7 +11,7 @@ use models::summary::Summary;
 use models::summary::work::work_up;
 use parts::part::{MOST_PARTS, Repeats};
 
-/// What bounds has the symbol.
+/// The bounds of the symbol, which is one of the model's.
 #[derive(Clone, Copy)]
 struct BoundsOf {
     symbol: u32,
@@ -22,7 +22,7 @@ struct BoundsOf {
 struct Bounded {
     /// Whether it stands in the part.
     holds: bool,
-    /// The bounds of the count that takes it, or 1 and 1.
+    /// The bounds of the count that takes it, or 1 and 1; of what does not hold it, any.
     bounds: Repeats,
 }
 
@@ -80,7 +80,8 @@ fn whose(left: Bounded, right: Bounded) -> Bounded
     if left.holds { left } else { right }
 }
 
-/// The bounds of the count that takes the symbol, or 1 and 1 where none does.
+/// The bounds of a symbol of a conflict-free model: those of the count that takes it, or
+/// 1 and 1 where none does.
 pub(crate) fn bounds_of(model: &Model<'_>, symbol: u32) -> Repeats
     ensures told { result ≡ bounds_in symbol (tree_of model.now) }
     ensures bounded { Bounds result.low result.high }

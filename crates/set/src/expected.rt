@@ -11,7 +11,7 @@ use models::model::conflict::first_conflict;
 use parts::symbols::SymbolSet;
 use summaries::symbols::symbols_of;
 
-/// A conflict-free model with its symbols, which most families ask for. Only `of` makes one.
+/// A conflict-free model with its symbols, which most families ask for.
 #[derive(Clone, Copy)]
 pub(crate) struct Expected<'a> {
     pub(crate) model: Model<'a>,

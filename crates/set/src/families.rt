@@ -13,21 +13,21 @@ use crate::expected::Expected;
 use cardinality::Cardinality;
 use co_occurrence::CoOccurrence;
 use lower_bound::LowerBound;
-use order::Order;
+use order::SymbolOrder;
 use rules::chain::Chain;
 use upper_bound::UpperBound;
 
 /// The five, one after another.
 pub(crate) type Five<'a> = Chain<
     UpperBound<'a>,
-    Chain<LowerBound<'a>, Chain<Cardinality<'a>, Chain<CoOccurrence<'a>, Order<'a>>>>,
+    Chain<LowerBound<'a>, Chain<Cardinality<'a>, Chain<CoOccurrence<'a>, SymbolOrder<'a>>>>,
 >;
 
 /// The five families of the model.
 pub(crate) fn five<'a>(expected: Expected<'a>) -> Five<'a>
     ensures { (result.first.expected ≡ expected.entry) × (result.second.first.expected ≡ expected.entry) × (result.second.second.first.expected ≡ expected.entry) × (result.second.second.second.first.expected ≡ expected.entry) × (result.second.second.second.second.expected ≡ expected.entry) }
 {
-    let order = Order { expected };
+    let order = SymbolOrder { expected };
     let from_co_occurrence = Chain::of(CoOccurrence { expected }, order);
     let from_cardinality = Chain::of(Cardinality { expected }, from_co_occurrence);
     let from_lower_bound = Chain::of(LowerBound { expected }, from_cardinality);

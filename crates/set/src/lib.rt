@@ -1,4 +1,5 @@
-//! The five rule families of an expected model.
+//! The five rule families of an expected model (`families`), and what is asked of them
+//! (`trial`).
 
 #![tactic(auto)]
 
@@ -7,7 +8,7 @@ pub mod conflict;
 mod expected;
 mod families;
 mod message;
-mod named;
 mod precedence;
 mod subject;
 pub mod trial;
+mod verdicts;

@@ -1,12 +1,12 @@
 //! What is found out about one message, in a loop over its symbols.
 
-ghost use Rattle.std.specs.Prelude.{◌≡◌};
-ghost use Rattle.models.specs.Messages.{occurrences as occurring};
-ghost use Rattle.set.specs.Asking.{SymbolsMet, FirstOutside, LastAt};
+ghost use Rattle.std.specs.Prelude.{◌≡◌, Decides};
+ghost use Rattle.models.specs.Messages.{HasOneOf, occurrences};
+ghost use Rattle.set.specs.Asking.{met_in, FirstOutside, LastAt};
 
 use parts::symbols::SymbolSet;
 
-/// The place of the first symbol that the set has not.
+/// The place of the first symbol that is not in the set.
 pub(crate) fn first_outside(message: &[u32], set: SymbolSet) -> Option<usize>
     ensures { FirstOutside set.bits message.now result }
 {
@@ -18,35 +18,46 @@ pub(crate) fn first_outside(message: &[u32], set: SymbolSet) -> Option<usize>
     None
 }
 
-/// How often the symbol occurs.
-pub(crate) fn occurrences(message: &[u32], symbol: u32) -> usize
-    ensures { result ≡ occurring symbol message.now }
+/// Whether some symbol is in the set.
+pub(crate) fn has_one_of(message: &[u32], set: SymbolSet) -> bool
+    ensures { Decides result (HasOneOf set.bits message.now) }
 {
-    let mut count = 0;
-    for found in message {
-        if *found == symbol {
-            count += 1;
+    for symbol in message {
+        if set.has(*symbol) {
+            return true;
         }
     }
-    count
+    false
 }
 
-/// The place where the symbol occurs last.
-pub(crate) fn last_place(message: &[u32], symbol: u32) -> Option<usize>
-    ensures { LastAt symbol message.now result }
+/// How a symbol occurs in a message.
+#[derive(Clone, Copy)]
+pub(crate) struct Found {
+    /// How often.
+    pub(crate) count: usize,
+    /// The place of the last time.
+    pub(crate) last: Option<usize>,
+}
+
+/// How the symbol occurs.
+pub(crate) fn find_symbol(message: &[u32], symbol: u32) -> Found
+    ensures count { result.count ≡ occurrences symbol message.now }
+    ensures last { LastAt symbol message.now result.last }
 {
+    let mut count = 0;
     let mut last = None;
     for (place, found) in message.iter().enumerate() {
         if *found == symbol {
+            count += 1;
             last = Some(place);
         }
     }
-    last
+    Found { count, last }
 }
 
-/// The symbols that occur, so far as they are in sets.
+/// The symbols up to 63 that occur.
 pub(crate) fn symbols_met(message: &[u32]) -> SymbolSet
-    ensures { SymbolsMet message.now result.bits }
+    ensures { result.bits ≡ met_in message.now }
 {
     let mut met = SymbolSet::EMPTY;
     for symbol in message {

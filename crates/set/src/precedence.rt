@@ -11,7 +11,7 @@ use parts::part::{MOST_PARTS, Repeats};
 use parts::symbols::SymbolSet;
 use summaries::symbols::Symbols;
 
-/// Which symbols may the symbol not come after.
+/// The symbols that the symbol may not come after.
 #[derive(Clone, Copy)]
 struct NotAfter {
     symbol: u32,
@@ -27,7 +27,7 @@ struct Marked {
 }
 
 impl NotAfter {
-    // What the other side has, if the symbol stands in this one.
+    // The symbols of the other side, if the symbol stands in this one.
     fn beside(&self, side: Marked, other: Marked) -> SymbolSet
         ensures { BesideIs self.now.symbol side.symbols.bits other.symbols.bits result.bits }
     {

@@ -6,10 +6,10 @@ ghost use Rattle.set.specs.Five.{cardinality_rules};
 
 use crate::bounds::bounds_of;
 use crate::expected::Expected;
-use crate::named;
 use crate::subject::Subject;
 use crate::subject::messages_of::MessagesOf;
 use crate::subject::one_message::OneMessage;
+use crate::verdicts;
 use models::model::Model;
 use rules::family::RuleFamily;
 use rules::verdict::Verdict;
@@ -23,11 +23,11 @@ impl Cardinality<'_> {
     fn first_broken<S: Subject>(&self, subject: &S) -> Option<Verdict>
         ensures { FirstIs (S.breaks subject.now) (cardinality_rules (tree_of self.now.expected.model)) result }
     {
-        let mut rest = self.expected.symbols;
+        let mut rest = self.expected.symbols.intersection(subject.symbols());
         while let Some(symbol) = rest.take_first() {
             let bounds = bounds_of(&self.expected.model, symbol);
             if subject.breaks_cardinality(symbol, bounds) {
-                return Some(named::cardinality(symbol, bounds));
+                return Some(verdicts::cardinality(symbol, bounds));
             }
         }
         None
@@ -42,6 +42,6 @@ impl RuleFamily for Cardinality<'_> {
     }
 
     fn broken_by_model(&self, model: &Model<'_>) -> Option<Verdict> {
-        self.first_broken(&MessagesOf { model: *model })
+        self.first_broken(&MessagesOf::of(model))
     }
 }

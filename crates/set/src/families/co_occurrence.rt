@@ -1,18 +1,16 @@
-//! Family 4: what the sides of sequences and interleaves bring of each other. The rules are
-//! asked on the way through the sheet, which a summary of the model works up.
+//! Family 4: a symbol of one side of a sequence or interleave brings one of the other side.
+//! The rules are asked on the way through the sheet, which a summary of the model works up.
 
-ghost use Rattle.std.specs.Prelude.{◌++◌};
 ghost use Rattle.models.specs.Checked.{tree_of};
-ghost use Rattle.models.specs.Trees.{Tree, Formed};
 ghost use Rattle.rules.specs.Rules.{FirstIs};
-ghost use Rattle.set.specs.Five.{co_occurrence, co_occurrence_rules, sides_rules, unless};
-ghost use Rattle.set.specs.Bringing.{AskedIs};
+ghost use Rattle.set.specs.Five.{co_occurrence_rules};
+ghost use Rattle.set.specs.Bringing.{AskedIs, SidesAsked, across_rules, brings_rule};
 
 use crate::expected::Expected;
-use crate::named;
 use crate::subject::Subject;
 use crate::subject::messages_of::MessagesOf;
 use crate::subject::one_message::OneMessage;
+use crate::verdicts;
 use models::model::Model;
 use models::summary::Summary;
 use models::summary::work::work_up;
@@ -47,14 +45,14 @@ struct Asked {
 impl<S: Subject> FirstBroken<'_, S> {
     // A symbol of the one brings one of the other, unless that may be empty.
     fn brings(&self, one: Asked, other: Asked) -> Option<Verdict>
-        ensures { FirstIs (S.breaks self.now.subject.now) (unless other.empty (co_occurrence one.symbols.bits other.symbols.bits)) result }
+        ensures { FirstIs (S.breaks self.now.subject.now) (brings_rule one other) result }
     {
         if !other.empty
             && self
                 .subject
                 .breaks_co_occurrence(one.symbols, other.symbols)
         {
-            Some(named::co_occurrence(one.symbols, other.symbols))
+            Some(verdicts::co_occurrence(one.symbols, other.symbols))
         } else {
             None
         }
@@ -63,7 +61,7 @@ impl<S: Subject> FirstBroken<'_, S> {
     // What the two ask of each other.
     #[tactic(auto, using(rules::proofs::Firsts::first_there, rules::proofs::Firsts::first_after))]
     fn across(&self, left: Asked, right: Asked) -> Option<Verdict>
-        ensures { FirstIs (S.breaks self.now.subject.now) (unless right.empty (co_occurrence left.symbols.bits right.symbols.bits) ++ unless left.empty (co_occurrence right.symbols.bits left.symbols.bits)) result }
+        ensures { FirstIs (S.breaks self.now.subject.now) (across_rules left right) result }
     {
         match self.brings(left, right) {
             None => self.brings(right, left),
@@ -73,7 +71,7 @@ impl<S: Subject> FirstBroken<'_, S> {
 
     // The rules of the left, those of the right, and then those of the two together.
     fn sides(&self, left: Asked, right: Asked) -> Option<Verdict>
-        ensures { (l r : Tree) → Formed l → Formed r → AskedIs (S.breaks self.now.subject.now) l left.symbols.bits left.empty left.broken → AskedIs (S.breaks self.now.subject.now) r right.symbols.bits right.empty right.broken → FirstIs (S.breaks self.now.subject.now) (co_occurrence_rules l ++ (co_occurrence_rules r ++ sides_rules l r)) result }
+        ensures { SidesAsked (S.breaks self.now.subject.now) left right result }
     {
         match left.broken.or(right.broken) {
             None => self.across(left, right),
@@ -85,7 +83,7 @@ impl<S: Subject> FirstBroken<'_, S> {
 impl<S: Subject> Summary for FirstBroken<'_, S> {
     type Value = Asked;
 
-    ghost means = { λ self t v. AskedIs (S.breaks self.subject.now) t v.symbols.bits v.empty v.broken };
+    ghost means = { λ self t v. AskedIs (S.breaks self.subject.now) t v };
 
     fn empty(&self) -> Asked {
         Asked {
@@ -164,6 +162,6 @@ impl RuleFamily for CoOccurrence<'_> {
     }
 
     fn broken_by_model(&self, model: &Model<'_>) -> Option<Verdict> {
-        self.first_broken(&MessagesOf { model: *model })
+        self.first_broken(&MessagesOf::of(model))
     }
 }

@@ -1,18 +1,19 @@
 //! Family 2: some symbol of the model, unless the empty message fits.
 
+ghost use Rattle.std.specs.Prelude.{◌≡◌, true, false, MatchOption};
 ghost use Rattle.models.specs.Checked.{tree_of};
-ghost use Rattle.rules.specs.Rules.{FirstIs};
 ghost use Rattle.set.specs.Five.{lower_bound_rules};
+ghost use Rattle.set.specs.Holding.{symbols_in, takes_empty};
 
 use crate::expected::Expected;
-use crate::named;
-use crate::subject::Subject;
-use crate::subject::messages_of::MessagesOf;
-use crate::subject::one_message::OneMessage;
+use crate::message::has_one_of;
+use crate::verdicts;
 use models::model::Model;
+use parts::symbols::SymbolSet;
 use rules::family::RuleFamily;
 use rules::verdict::Verdict;
 use summaries::empty::empty_fits;
+use summaries::every::every_of;
 
 #[derive(Clone, Copy)]
 pub(crate) struct LowerBound<'a> {
@@ -20,29 +21,35 @@ pub(crate) struct LowerBound<'a> {
 }
 
 impl LowerBound<'_> {
-    fn first_broken<S: Subject>(&self, subject: &S) -> Option<Verdict>
-        ensures { FirstIs (S.breaks subject.now) (lower_bound_rules (tree_of self.now.expected.model)) result }
+    /// The symbols of which a message has to have one, if it has to.
+    fn wanted(&self) -> Option<SymbolSet>
+        ensures { MatchOption result (takes_empty (tree_of self.now.expected.model) ≡ true) (λ set. (takes_empty (tree_of self.now.expected.model) ≡ false) × (set.bits ≡ symbols_in (tree_of self.now.expected.model))) }
     {
         if empty_fits(&self.expected.model) {
             return None;
         }
-        let symbols = self.expected.symbols;
-        if subject.breaks_lower_bound(symbols) {
-            Some(named::lower_bound(symbols))
-        } else {
-            None
-        }
+        Some(self.expected.symbols)
     }
 }
 
 impl RuleFamily for LowerBound<'_> {
     ghost rules = { λ self. lower_bound_rules (tree_of self.expected.model) };
 
+    // the message need not be empty to have none of the symbols
     fn broken_by_message(&self, message: &[u32]) -> Option<Verdict> {
-        self.first_broken(&OneMessage::of(message))
+        let wanted = self.wanted()?;
+        if has_one_of(message, wanted) {
+            return None;
+        }
+        Some(verdicts::lower_bound(wanted))
     }
 
     fn broken_by_model(&self, model: &Model<'_>) -> Option<Verdict> {
-        self.first_broken(&MessagesOf { model: *model })
+        let wanted = self.wanted()?;
+        let (every, _) = every_of(model, wanted);
+        if every {
+            return None;
+        }
+        Some(verdicts::lower_bound(wanted))
     }
 }

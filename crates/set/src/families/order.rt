@@ -14,15 +14,15 @@ use rules::family::RuleFamily;
 use rules::verdict::Verdict;
 
 #[derive(Clone, Copy)]
-pub(crate) struct Order<'a> {
+pub(crate) struct SymbolOrder<'a> {
     pub(crate) expected: Expected<'a>,
 }
 
-impl Order<'_> {
+impl SymbolOrder<'_> {
     fn first_broken<S: Subject>(&self, subject: &S) -> Option<Verdict>
         ensures { FirstIs (S.breaks subject.now) (order_rules (tree_of self.now.expected.model)) result }
     {
-        let mut rest = self.expected.symbols;
+        let mut rest = self.expected.symbols.intersection(subject.symbols());
         while let Some(symbol) = rest.take_first() {
             let others = not_after(&self.expected.model, symbol);
             if let Some(verdict) = subject.breaks_orders(symbol, others) {
@@ -33,7 +33,7 @@ impl Order<'_> {
     }
 }
 
-impl RuleFamily for Order<'_> {
+impl RuleFamily for SymbolOrder<'_> {
     ghost rules = { λ self. order_rules (tree_of self.expected.model) };
 
     fn broken_by_message(&self, message: &[u32]) -> Option<Verdict> {
@@ -41,6 +41,6 @@ impl RuleFamily for Order<'_> {
     }
 
     fn broken_by_model(&self, model: &Model<'_>) -> Option<Verdict> {
-        self.first_broken(&MessagesOf { model: *model })
+        self.first_broken(&MessagesOf::of(model))
     }
 }

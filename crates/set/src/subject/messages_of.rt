@@ -1,13 +1,14 @@
-//! All messages of a model as the subject, asked through its summaries.
+//! All messages of a model as what rules are asked about, through its summaries.
 
 ghost use Rattle.std.specs.Prelude.{◌≡◌, ℕ, ◌<◌, ◌≤◌, Decides};
 ghost use Rattle.models.specs.Checked.{tree_of};
 ghost use Rattle.occurrences.specs.Figures.{figure};
 ghost use Rattle.occurrences.specs.declared.figure.Most.TheVariants.{Ends, NoEnd};
 ghost use Rattle.rules.specs.Rules.{SomeBreaks};
+ghost use Rattle.set.specs.Holding.{symbols_in};
 
 use super::Subject;
-use crate::named;
+use crate::verdicts;
 use models::model::Model;
 use occurrences::figure::{Figure, Most};
 use occurrences::occurs::occurrences_of;
@@ -16,12 +17,25 @@ use parts::symbols::SymbolSet;
 use rules::verdict::Verdict;
 use summaries::after::order_of;
 use summaries::brings::brings_of;
-use summaries::every::every_of;
 use summaries::symbols::symbols_of;
 
 #[derive(Clone, Copy)]
 pub(crate) struct MessagesOf<'m> {
-    pub(crate) model: Model<'m>,
+    model: Model<'m>,
+    /// The symbols that messages have.
+    symbols: SymbolSet,
+    ghost all: { symbols.bits ≡ symbols_in (tree_of model) },
+}
+
+impl<'m> MessagesOf<'m> {
+    pub(crate) fn of(model: &Model<'m>) -> MessagesOf<'m>
+        ensures { tree_of result.model ≡ tree_of model.now }
+    {
+        MessagesOf {
+            model: *model,
+            symbols: symbols_of(model),
+        }
+    }
 }
 
 fn is_below(fewest: Figure, low: u32) -> bool
@@ -41,13 +55,8 @@ fn is_above(most: Most, high: u32) -> bool
 impl Subject for MessagesOf<'_> {
     ghost breaks = { λ self. SomeBreaks (tree_of self.model) };
 
-    #[tactic(auto, using(crate::proofs::Subjects::carried_outside))]
-    fn breaks_upper_bound(&self, set: SymbolSet) -> bool {
-        !symbols_of(&self.model).difference(set).is_empty()
-    }
-
-    fn breaks_lower_bound(&self, set: SymbolSet) -> bool {
-        !every_of(&self.model, set).0
+    fn symbols(&self) -> SymbolSet {
+        self.symbols
     }
 
     fn breaks_cardinality(&self, symbol: u32, bounds: Repeats) -> bool {
@@ -63,11 +72,11 @@ impl Subject for MessagesOf<'_> {
         !brings_of(&self.model, first, second).brings
     }
 
-    fn breaks_orders(&self, first: u32, others: SymbolSet) -> Option<Verdict> {
-        let mut rest = others;
-        while let Some(second) = rest.take_first() {
-            if order_of(&self.model, first, second).after {
-                return Some(named::order(first, second));
+    fn breaks_orders(&self, symbol: u32, others: SymbolSet) -> Option<Verdict> {
+        let mut rest = others.intersection(self.symbols);
+        while let Some(other) = rest.take_first() {
+            if order_of(&self.model, symbol, other).after {
+                return Some(verdicts::order(symbol, other));
             }
         }
         None

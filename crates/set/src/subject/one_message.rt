@@ -1,4 +1,4 @@
-//! One message as the subject.
+//! One message as what rules are asked about.
 
 ghost use Rattle.std.specs.Prelude.{◌≡◌, Decides};
 ghost use Rattle.models.specs.Messages.{HasOneOf};
@@ -7,8 +7,8 @@ ghost use Rattle.rules.specs.Rules.{Breaks};
 ghost use Rattle.set.specs.Asking.{met_in};
 
 use super::Subject;
-use crate::message::{first_outside, last_place, occurrences, symbols_met};
-use crate::named;
+use crate::message::{find_symbol, symbols_met};
+use crate::verdicts;
 use parts::part::Repeats;
 use parts::symbols::SymbolSet;
 use rules::verdict::Verdict;
@@ -16,7 +16,7 @@ use rules::verdict::Verdict;
 #[derive(Clone, Copy)]
 pub(crate) struct OneMessage<'m> {
     message: &'m [u32],
-    /// Its symbols, so far as they are in sets.
+    /// Its symbols up to 63.
     met: SymbolSet,
     ghost all: { met.bits ≡ met_in message.now },
 }
@@ -38,7 +38,6 @@ impl<'m> OneMessage<'m> {
     }
 }
 
-// Whether so many are neither too few nor too many.
 fn is_between(count: usize, bounds: Repeats) -> bool
     ensures { Decides result (Between bounds.low bounds.high count) }
 {
@@ -48,17 +47,12 @@ fn is_between(count: usize, bounds: Repeats) -> bool
 impl Subject for OneMessage<'_> {
     ghost breaks = { λ self. Breaks self.message.now };
 
-    #[tactic(auto, using(crate::proofs::Subjects::outside_breaks))]
-    fn breaks_upper_bound(&self, set: SymbolSet) -> bool {
-        first_outside(self.message, set).is_some()
-    }
-
-    fn breaks_lower_bound(&self, set: SymbolSet) -> bool {
-        !self.has_one_of(set)
+    fn symbols(&self) -> SymbolSet {
+        self.met
     }
 
     fn breaks_cardinality(&self, symbol: u32, bounds: Repeats) -> bool {
-        let count = occurrences(self.message, symbol);
+        let count = find_symbol(self.message, symbol).count;
         count > 0 && !is_between(count, bounds)
     }
 
@@ -66,11 +60,11 @@ impl Subject for OneMessage<'_> {
         self.has_one_of(first) && !self.has_one_of(second)
     }
 
-    #[tactic(auto, using(crate::proofs::Subjects::orders_kept))]
-    fn breaks_orders(&self, first: u32, others: SymbolSet) -> Option<Verdict> {
-        let last = last_place(self.message, first)?;
+    // a symbol comes after those that stand before its last place
+    fn breaks_orders(&self, symbol: u32, others: SymbolSet) -> Option<Verdict> {
+        let last = find_symbol(self.message, symbol).last?;
         let before = symbols_met(&self.message[..last]);
-        let second = before.intersection(others).take_first()?;
-        Some(named::order(first, second))
+        let other = before.intersection(others).take_first()?;
+        Some(verdicts::order(symbol, other))
     }
 }

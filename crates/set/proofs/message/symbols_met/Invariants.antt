@@ -1,6 +1,6 @@
-use Rattle.std.proofs.Common.{take}
-use Rattle.set.specs.Asking.{SymbolsMet}
+use Rattle.std.proofs.Common.{◌≡◌, take}
+use Rattle.set.specs.Asking.{met_in}
 use Rattle.set.proofs.message.symbols_met.Given as goal
 
 abbrev pub invariant-loop-symbol : goal.invariant-loop-symbol
-invariant-loop-symbol l = SymbolsMet (take l.symbol-index l.message) l.met.bits
+invariant-loop-symbol l = l.met.bits ≡ met_in (take l.symbol-index l.message)

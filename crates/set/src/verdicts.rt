@@ -7,8 +7,8 @@ use parts::part::Repeats;
 use parts::symbols::SymbolSet;
 use rules::verdict::Verdict;
 
-// A verdict of the family, which uses nothing yet.
-fn unused(family: u32) -> Verdict
+// A verdict of the family that says nothing more.
+fn of_family(family: u32) -> Verdict
     ensures { result ≡ record { family = family; first = record { bits = 0 }; second = record { bits = 0 }; low = 0; high = 0 } }
 {
     Verdict {
@@ -25,7 +25,7 @@ pub(crate) fn upper_bound(set: SymbolSet) -> Verdict
 {
     Verdict {
         first: set,
-        ..unused(1)
+        ..of_family(1)
     }
 }
 
@@ -34,7 +34,7 @@ pub(crate) fn lower_bound(set: SymbolSet) -> Verdict
 {
     Verdict {
         first: set,
-        ..unused(2)
+        ..of_family(2)
     }
 }
 
@@ -45,7 +45,7 @@ pub(crate) fn cardinality(symbol: u32, bounds: Repeats) -> Verdict
         first: SymbolSet::of(symbol),
         low: bounds.low,
         high: bounds.high,
-        ..unused(3)
+        ..of_family(3)
     }
 }
 
@@ -55,7 +55,7 @@ pub(crate) fn co_occurrence(first: SymbolSet, second: SymbolSet) -> Verdict
     Verdict {
         first,
         second,
-        ..unused(4)
+        ..of_family(4)
     }
 }
 
@@ -65,6 +65,6 @@ pub(crate) fn order(first: u32, second: u32) -> Verdict
     Verdict {
         first: SymbolSet::of(first),
         second: SymbolSet::of(second),
-        ..unused(5)
+        ..of_family(5)
     }
 }

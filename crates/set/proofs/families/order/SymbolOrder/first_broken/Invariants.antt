@@ -5,7 +5,7 @@ use Rattle.set.specs.Five.{order_rules_from}
 use Rattle.set.specs.Holding.{symbols_in}
 use Rattle.set.proofs.Going.{Left}
 use Rattle.set.proofs.Ordering.{Standing}
-use Rattle.set.proofs.families.order.Order.first_broken.Given as goal
+use Rattle.set.proofs.families.order.SymbolOrder.first_broken.Given as goal
 
 abbrev pub invariant-loop-symbol : goal.invariant-loop-symbol
 invariant-loop-symbol g l =

@@ -8,7 +8,7 @@ use Rattle.set.specs.declared.expected.Expected.{Expected}
 use Rattle.set.proofs.Exact.{five_include}
 use Rattle.set.proofs.Trials.{five_asked, included_told}
 use Rattle.set.proofs.Worked.{worked_pairs}
-use Rattle.set.proofs.trial.try_model.Goals as goal
+use Rattle.set.proofs.trial.compare_models.Goals as goal
 
 pub returns-in_err-expected-clause-exact : goal.returns-in_err-expected-clause-exact
 returns-in_err-expected-clause-exact c = five_include

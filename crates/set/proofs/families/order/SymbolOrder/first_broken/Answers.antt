@@ -1,16 +1,24 @@
+use Rattle.std.proofs.Common.{subst}
+use Rattle.parts.specs.Sets.{In}
+use Rattle.parts.proofs.SymbolSets.{in_both}
 use Rattle.models.specs.Checked.{tree_of}
 use Rattle.models.proofs.Conflicts.{none_exactly}
 use Rattle.models.proofs.Written.{model_sheet}
 use Rattle.set.specs.Five.{order_rules_from}
 use Rattle.set.specs.Holding.{symbols_in}
-use Rattle.set.proofs.Going.{left_found, left_more}
-use Rattle.set.proofs.Ordering.{standing_all, standing_rest, asked_from}
-use Rattle.set.proofs.families.order.Order.first_broken.Goals as goal
+use Rattle.set.proofs.Going.{left_start, left_found, left_more}
+use Rattle.set.proofs.Ordering.{no_orders, standing_within, standing_rest, asked_from}
+use Rattle.set.proofs.families.order.SymbolOrder.first_broken.Goals as goal
 
 pub loop-symbol-init : goal.loop-symbol-init
 loop-symbol-init g c =
     let expected = c.args.self.now.expected in
-    rw expected.all ((λ answer h. h), standing_all (tree_of expected.model) (model_sheet expected.model.parts.now expected.model.checked).1)
+    let t = tree_of expected.model in
+    let breaks = g.S.Subject.breaks c.args.subject.now in (
+      left_start breaks (λ a. order_rules_from a t) (symbols_in t) _ _ _ expected.all c.intersection-rest.ensures (λ a low out. no_orders breaks a t (c.symbols.ensures a low out).1),
+      standing_within t _ (model_sheet expected.model.parts.now expected.model.checked).1
+          (λ s h. subst (λ n. In n s) expected.all (in_both _ _ s (rw c.intersection-rest.ensures at h)).0),
+    )
 
 pub returns-in-Some-breaks_orders : goal.returns-in-Some-breaks_orders
 returns-in-Some-breaks_orders g c =

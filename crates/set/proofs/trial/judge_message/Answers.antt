@@ -5,15 +5,21 @@ use Rattle.models.specs.Conflicts.{first_conflict_of}
 use Rattle.rules.specs.Rules.{Breaks, FirstIs}
 use Rattle.set.specs.Five.{five}
 use Rattle.set.specs.declared.expected.Expected.{Expected}
-use Rattle.set.proofs.Exact.{five_exact}
+use Rattle.set.proofs.Exact.{five_exact, five_fit, values_tell}
 use Rattle.set.proofs.Trials.{five_asked, fits_told}
-use Rattle.set.proofs.trial.fit_message.Goals as goal
+use Rattle.set.proofs.trial.judge_message.Goals as goal
 
 pub returns-in_err-expected-clause-exact : goal.returns-in_err-expected-clause-exact
-returns-in_err-expected-clause-exact c = five_exact
+returns-in_err-expected-clause-exact c = (five_exact, five_fit)
+
+pub returns-in_err-expected-clause-values : goal.returns-in_err-expected-clause-values
+returns-in_err-expected-clause-values c = values_tell
+
+pub returns-clause-values : goal.returns-clause-values
+returns-clause-values c = values_tell
 
 pub returns-clause-exact : goal.returns-clause-exact
-returns-clause-exact c = five_exact
+returns-clause-exact c = (five_exact, five_fit)
 
 first : (c : goal.After-broken_by_message) → FirstIs (Breaks c.args.message.now) (five (tree_of c.args.expected.now)) c.broken_by_message.result
 first c =
