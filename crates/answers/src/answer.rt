@@ -6,7 +6,7 @@ use crate::reply::Reply;
 use models::model::check::check;
 use parts::refusal::Refusal;
 use script::call::Call;
-use set::trial::{fit_message, try_model};
+use set::trial::{compare_models, judge_message};
 
 /// Runs a call: a reply, or why a table of parts is no model; of two tables the sent one
 /// is checked first.
@@ -26,11 +26,11 @@ pub fn answer_call(call: &Call) -> Result<Reply, Refusal>
         Call::Try { sent, expected } => {
             let sent = check(sent.as_slice())?;
             let expected = check(expected.as_slice())?;
-            Ok(Reply::tried(try_model(&sent, &expected), Reply::Included))
+            Ok(Reply::tried(compare_models(&sent, &expected), Reply::Included))
         }
         Call::Fit { message, expected } => {
             let expected = check(expected.as_slice())?;
-            Ok(Reply::tried(fit_message(message.as_slice(), &expected), Reply::Fits))
+            Ok(Reply::tried(judge_message(message.as_slice(), &expected), Reply::Fits))
         }
     }
 }

@@ -12,6 +12,7 @@ use parts::part::Part;
 /// Something that a word writes.
 pub(crate) trait Written: Sized + Drop {
     ghost written: { List ℕ → Option Self };
+
     ghost unread: { ℕ → Bor (List ℕ) → LineErrorOf };
 
     /// What the word writes, if it does.
@@ -25,6 +26,7 @@ pub(crate) trait Written: Sized + Drop {
 
 impl Written for Part {
     ghost written = { part_read };
+
     ghost unread = { no_part };
 
     fn read(word: &str) -> Option<Part> {
@@ -39,6 +41,7 @@ impl Written for Part {
 /// A symbol.
 impl Written for u32 {
     ghost written = { number_read };
+
     ghost unread = { no_symbol };
 
     fn read(word: &str) -> Option<u32> {

@@ -1,6 +1,6 @@
 -- The order rules of one symbol, from the set of those that it may not come after. Assumes nothing.
-use Rattle.std.proofs.Common.{◌≡◌, ℕ, zero, suc, ◌≤◌, eqb, cond, ◌⊎◌, Bool, true, false, [], ◌∷◌, ◌++◌, Option, sym, refl, ap₂, ◌∙◌, subst, inl, inr, ⊎_elim, arith, None}
-use Rattle.std.proofs.lemmas.Bool.{cases_eq, cases_Bool, cond-true, cond-false, eq-eqb, ne_eqb}
+use Rattle.std.proofs.Common.{◌≡◌, ℕ, Bool, true, false, [], ◌∷◌, Option, sym, refl, subst, inl, inr, ⊎_elim, arith, None}
+use Rattle.std.proofs.lemmas.Bool.{cases_Bool}
 use Rattle.parts.specs.Sets.{In, members}
 use Rattle.models.specs.Conflicts.{ConflictFree}
 use Rattle.models.specs.Messages.{Occurs}

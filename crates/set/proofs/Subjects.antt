@@ -11,7 +11,7 @@ use Rattle.models.specs.Trees.{Tree, Fits, Between, Formed}
 use Rattle.models.proofs.Occurrences.{occurs_right}
 use Rattle.models.proofs.Counted.{counted_some, some_counted}
 use Rattle.models.proofs.Ordered.{After-append, after_across}
-use Rattle.rules.specs.Rules.{Rule, Breaks, SomeBreaks, FirstIs}
+use Rattle.rules.specs.Rules.{Breaks, SomeBreaks, FirstIs}
 use Rattle.rules.specs.declared.verdict.Verdict.{Verdict}
 use Rattle.summaries.specs.Always.{Always}
 use Rattle.summaries.specs.SymbolsOf.{SymbolsAre}
