@@ -1,4 +1,3 @@
 pub mod Joining
-pub mod Listing
 pub mod SymbolSets
 pub mod Taking

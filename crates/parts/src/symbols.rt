@@ -6,9 +6,6 @@ ghost use Rattle.parts.specs.Sets.{In, EmptyIs, DifferenceIs, Taken, listed};
 use crate::part::LAST_SYMBOL;
 use std::fmt;
 
-/// How many symbols there are, one for each bit of a set.
-const SYMBOLS: u32 = LAST_SYMBOL + 1;
-
 /// A set of symbols: the bit worth 2^s stands for symbol s. A symbol above 63
 /// belongs to no set.
 #[derive(Clone, Copy, PartialEq, Eq)]
@@ -91,11 +88,9 @@ impl fmt::Display for SymbolSet {
 
     fn fmt<W: fmt::Write>(&self, f: &mut fmt::Formatter<W>) -> fmt::Result {
         let mut gap = "";
+        let mut rest = *self;
         f.write_str("{")?;
-        for symbol in 0..SYMBOLS {
-            if !self.has(symbol) {
-                continue;
-            }
+        while let Some(symbol) = rest.take_first() {
             write!(f, "{gap}{symbol}")?;
             gap = ",";
         }
