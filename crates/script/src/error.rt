@@ -19,7 +19,7 @@ pub enum LineError<'a> {
     NotSymbol { word: Option<&'a str> },
     /// No colon stands before the parts.
     NotColon { word: Option<&'a str> },
-    /// A word is not written as a part; `count` numbers the parts of the line from 1.
+    /// A word is not written as a part; `count` numbers the parts of its table from 1.
     NotPart { count: usize, word: &'a str },
     /// The line ends without the word `in`.
     NoIn,

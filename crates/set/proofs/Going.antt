@@ -1,5 +1,5 @@
 -- Rules asked one symbol after another, down a set. Assumes nothing.
-use Rattle.std.proofs.Common.{◌≡◌, ℕ, ◌≤◌, Bool, true, false, Decides, List, [], ◌∷◌, Some, None, Option, sym, refl, subst, inl, inr}
+use Rattle.std.proofs.Common.{◌≡◌, ℕ, ◌≤◌, Bool, false, Decides, List, [], ◌∷◌, Some, None, Option, sym, refl, subst, inr}
 use lib.Bits.{bit_and}
 use Rattle.std.proofs.lemmas.Bool.{both_ways}
 use Rattle.parts.specs.Sets.{In, members}
@@ -16,10 +16,6 @@ abbrev pub Left : (Rule → Type 0) → (ℕ → List Rule) → ℕ → ℕ → 
 Left P rules all rest = (answer : Option Verdict) → FirstIs P (for_each (members rest) rules) answer → FirstIs P (for_each (members all) rules) answer
 
 module _ (P : Rule → Type 0) where
-  -- one rule
-  pub broken_rule : (rule : Rule) (b : Bool) → Decides b (P rule) → b ≡ true → FirstIs P (rule ∷ []) (Some (rule.verdict))
-  broken_rule rule b d e = inl (d.0 e, refl)
-
   pub kept_rule : (rule : Rule) (b : Bool) → Decides b (P rule) → b ≡ false → FirstIs P (rule ∷ []) None
   kept_rule rule b d e = inr ((λ p. both_ways b e (d.1 p)), refl)
 
@@ -37,6 +33,3 @@ module _ (P : Rule → Type 0) where
 
     pub left_more : FirstIs P (rules s) None → Left P rules all new
     left_more none answer rest = left answer (rw taken (first_after P (rules s) (for_each (members new) rules) None answer refl none rest))
-
-  pub left_none : (rules : ℕ → List Rule) (all rest : ℕ) → Left P rules all rest → members rest ≡ [] → FirstIs P (for_each (members all) rules) None
-  left_none rules all rest left e = left None (rw e refl)

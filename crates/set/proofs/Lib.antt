@@ -17,3 +17,4 @@ pub mod Ordering
 pub mod Bringing
 pub mod Trials
 pub mod Meeting
+pub mod Outside

@@ -5,9 +5,9 @@ use Rattle.std.proofs.lemmas.Nat.{or_lt}
 use Rattle.parts.specs.Sets.{In, only}
 use Rattle.parts.proofs.SymbolSets.{in_left, in_right, in_either, in_only, only_in, in_none, same_set}
 use Rattle.models.specs.Messages.{Message}
-use Rattle.set.specs.Asking.{SymbolsMet, met_in}
+use Rattle.set.specs.Asking.{met_in}
+use Rattle.set.proofs.Sofar.{SymbolsMet, met_more}
 use Rattle.set.proofs.Sets.{only_small}
-use Rattle.set.proofs.Sofar.{met_more}
 
 pub met_in_is : (m : Message) → SymbolsMet m (met_in m)
 met_in_is [] s = ((λ h. in_none s h), (λ low h. absurd h))

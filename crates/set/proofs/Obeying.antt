@@ -15,12 +15,12 @@ use Rattle.set.proofs.Agreeing.{Agree, agree_back, agree_occurs, agree_piece, sh
 use Rattle.set.proofs.Holding.{stands_holds, holds_not, symbols_stand, Within}
 use Rattle.set.proofs.Lists.{KeepsAll-append, keeps_append, KeepsAll-unless, keeps_unless}
 
-abbrev pub Bounded : Repeats → ℕ → Type 0
-Bounded bounds n = Between bounds.low bounds.high n
+abbrev pub InBounds : Repeats → ℕ → Type 0
+InBounds bounds n = Between bounds.low bounds.high n
 
 -- how often symbols stand in the message, what they bring and in which order they stand
 pub record Obeys (t : Tree) (m : Message) : Type 0 where
-  pub counted : (s : ℕ) → Stands t s → Occurs s m → Bounded (bounds_in s t) (occurrences s m)
+  pub counted : (s : ℕ) → Stands t s → Occurs s m → InBounds (bounds_in s t) (occurrences s m)
   pub brought : KeepsAll (co_occurrence_rules t) m
   pub in_order : (a b : ℕ) → Stands t a → Stands t b → ordered a b t ≡ true → After a b m → ⊥
 
@@ -115,7 +115,7 @@ module _ (m : Message) (whole : Tree) (G : (Message → Type 0) → Type 0) (mor
 -- of two messages that agree on the symbols of a tree, both do what it asks or neither
 pub obeys_agree : (t : Tree) (n m : Message) → Formed t → Agree t n m → Obeys t n → Obeys t m
 obeys_agree t n m f g o = record {
-  counted = λ s p h. subst (Bounded (bounds_in s t)) (g.counts s p) (o.counted s p (agree_occurs t m n (agree_back t n m g) s p h));
+  counted = λ s p h. subst (InBounds (bounds_in s t)) (g.counts s p) (o.counted s p (agree_occurs t m n (agree_back t n m g) s p h));
   brought = brought_from m t (λ P. P n) (λ P Q f h. f n h)
       (λ l r f' g' u v h e (s, i, z).
       let back = agree_occurs t m n (agree_back t n m g) in
@@ -162,12 +162,12 @@ module _ (own : Message → Type 0) (l r t : Tree) (pair : Pair own l r t) (apar
   obeys_parts m o =
       let (f, g, h) = pair.rules m o.brought in (
         record {
-          counted = λ s p z. subst (λ w. Bounded w (occurrences s m)) (bounds_left s p) (o.counted s (pair.stood s (inl p)) z);
+          counted = λ s p z. subst (λ w. InBounds w (occurrences s m)) (bounds_left s p) (o.counted s (pair.stood s (inl p)) z);
           brought = f;
           in_order = λ a b p q e z. o.in_order a b (pair.stood a (inl p)) (pair.stood b (inl q)) (ordered_left a b p q ∙ e) z;
         },
         record {
-          counted = λ s p z. subst (λ w. Bounded w (occurrences s m)) (bounds_right s p) (o.counted s (pair.stood s (inr p)) z);
+          counted = λ s p z. subst (λ w. InBounds w (occurrences s m)) (bounds_right s p) (o.counted s (pair.stood s (inr p)) z);
           brought = g;
           in_order = λ a b p q e z. o.in_order a b (pair.stood a (inr p)) (pair.stood b (inr q)) (ordered_right a b p q ∙ e) z;
         },
@@ -184,8 +184,8 @@ module _ (own : Message → Type 0) (l r t : Tree) (pair : Pair own l r t) (apar
   pub obeys_whole : (m : Message) → Obeys l m → Obeys r m → own m → SidesOrdered l r t m → Obeys t m
   obeys_whole m f g h across = record {
     counted = λ s p z. elim (pair.stands s p) [
-      | inl q ↦ subst (λ w. Bounded w (occurrences s m)) (sym (bounds_left s q)) (f.counted s q z)
-      | inr q ↦ subst (λ w. Bounded w (occurrences s m)) (sym (bounds_right s q)) (g.counted s q z)
+      | inl q ↦ subst (λ w. InBounds w (occurrences s m)) (sym (bounds_left s q)) (f.counted s q z)
+      | inr q ↦ subst (λ w. InBounds w (occurrences s m)) (sym (bounds_right s q)) (g.counted s q z)
     ];
     brought = pair.kept m (f.brought, g.brought, h);
     in_order = λ a b p q e z. elim (pair.stands a p) [

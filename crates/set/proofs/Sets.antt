@@ -4,9 +4,12 @@ use Rattle.std.proofs.lemmas.Bool.{cases_lt, cond-true, cond-false, le-leb, lt-l
 use Rattle.std.proofs.lemmas.Nat.{or_lt, pow_below}
 use Rattle.parts.specs.Sets.{only}
 use Rattle.parts.proofs.SymbolSets.{same_set}
+use Rattle.models.specs.declared.model.Model.{Model}
+use Rattle.models.specs.Checked.{tree_of}
 use Rattle.models.specs.Trees.{Tree, Formed}
 use Rattle.models.specs.Trees.Tree.{empty, symbol, choice, sequence, interleave, count, nonempty}
 use Rattle.summaries.specs.SymbolsOf.{StandingAre}
+use Rattle.models.proofs.Written.{model_sheet}
 use Rattle.set.specs.Holding.{symbols_in}
 use Rattle.set.proofs.Holding.{symbols_stand}
 
@@ -16,6 +19,10 @@ only_cases s (inr low) = rw (cond-true (leb s 63) (2 ^ s) 0 (le-leb s 63 low)) (
 
 pub only_small : (s : ℕ) → only s < 2 ^ 64
 only_small s = only_cases s (cases_lt 63 s)
+
+-- the tree of a checked model is well formed
+pub formed_of : (m : Model) → Formed (tree_of m)
+formed_of m = (model_sheet m.parts.now m.checked).1
 
 pub symbols_small : (t : Tree) → symbols_in t < 2 ^ 64
 symbols_small empty = omega arith

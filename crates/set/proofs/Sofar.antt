@@ -1,5 +1,5 @@
 -- A message so far: what its symbols are with one more. Assumes nothing.
-use Rattle.std.proofs.Common.{◌≡◌, ℕ, zero, suc, ◌+◌, ◌<◌, [], ◌∷◌, ◌++◌, length, get_or, Some, None, Option, sym, refl, ap, ◌∙◌, subst, inl, inr, ⊎_elim, arith}
+use Rattle.std.proofs.Common.{◌≡◌, ℕ, zero, suc, ◌+◌, ◌<◌, [], ◌∷◌, ◌++◌, length, get_or, Some, None, Option, sym, refl, ap, ◌∙◌, subst, inl, inr, ⊎_elim, arith, ◌≤◌}
 use lib.Bits.{bit_or}
 use Rattle.std.proofs.lemmas.List.{append_assoc}
 use Rattle.models.specs.Messages.{Message, Occurs, occurrences}
@@ -7,7 +7,15 @@ use Rattle.models.proofs.Counted.{counted_append, counted_same, counted_other}
 use Rattle.models.proofs.Occurrences.{Occurs-append, occurs_left, occurs_right}
 use Rattle.parts.proofs.SymbolSets.{in_left, in_right, in_either, in_only, only_in}
 use Rattle.parts.specs.Sets.{In, only}
-use Rattle.set.specs.Asking.{SymbolsMet, AllIn, NoneIn, LastAt}
+use Rattle.set.specs.Asking.{AllIn, LastAt}
+
+-- the set has the symbols of the message up to 63, and no others
+abbrev pub SymbolsMet : Message → ℕ → Type 0
+SymbolsMet m set = (s : ℕ) → (In set s → Occurs s m) × (s ≤ 63 → Occurs s m → In set s)
+
+-- no symbol of the message is in the set
+abbrev pub NoneIn : ℕ → Message → Type 0
+NoneIn set m = (s : ℕ) → In set s → Occurs s m → ⊥
 
 one_occurs : (s x : ℕ) → Occurs s (x ∷ []) → x ≡ s
 one_occurs s x (inl e) = e

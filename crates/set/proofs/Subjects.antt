@@ -4,35 +4,26 @@ use lib.Bits.{bit_and}
 use Rattle.std.proofs.lemmas.List.{take_at}
 use Rattle.std.proofs.lemmas.Bool.{cases_Bool, both_ways, false≢true}
 use Rattle.parts.specs.declared.part.Repeats.{Repeats}
-use Rattle.parts.specs.Sets.{In, EmptyIs, DifferenceIs, members}
-use Rattle.parts.proofs.SymbolSets.{cases_in, both_in, in_both}
+use Rattle.parts.specs.Sets.{In, EmptyIs, members}
+use Rattle.parts.proofs.SymbolSets.{both_in, in_both}
 use Rattle.models.specs.Messages.{Message, Occurs, HasOneOf, occurrences, After}
 use Rattle.models.specs.Trees.{Tree, Fits, Between, Formed}
-use Rattle.models.proofs.Occurrences.{occurs_right}
 use Rattle.models.proofs.Counted.{counted_some, some_counted}
 use Rattle.models.proofs.Ordered.{After-append, after_across}
 use Rattle.rules.specs.Rules.{Breaks, SomeBreaks, FirstIs}
 use Rattle.rules.specs.declared.verdict.Verdict.{Verdict}
 use Rattle.summaries.specs.Always.{Always}
-use Rattle.summaries.specs.SymbolsOf.{SymbolsAre}
 use Rattle.summaries.proofs.Carried.{carried_stands}
 use Rattle.summaries.specs.Orders.{Reverses}
-use Rattle.set.specs.Asking.{met_in, SymbolsMet, FirstOutside, LastAt}
-use Rattle.set.specs.Five.{upper_bound, cardinality, co_occurrence, order}
+use Rattle.set.specs.Asking.{met_in, LastAt}
+use Rattle.set.proofs.Sofar.{SymbolsMet}
+use Rattle.set.specs.Five.{cardinality, co_occurrence, order}
 use Rattle.set.specs.Subjects.{OthersKept, orders_after}
 use Rattle.set.specs.Holding.{symbols_in}
 use Rattle.set.proofs.Holding.{symbols_stand}
 use Rattle.set.proofs.Agreeing.{after_first, after_second}
 use Rattle.set.proofs.Meeting.{met_in_is}
 use Rattle.set.proofs.Skipping.{none_each, passed, member_in}
-
--- a message breaks the upper bound exactly where it has a first symbol outside
-pub all_inside : (set : ℕ) (m : Message) → FirstOutside set m None → FirstIs (Breaks m) (upper_bound set ∷ []) None
-all_inside set m all = inr ((λ breaks. breaks all), refl)
-
-pub one_outside : (set : ℕ) (m : Message) (k : ℕ) → FirstOutside set m (Some k) → FirstIs (Breaks m) (upper_bound set ∷ []) (Some ((upper_bound set).verdict))
-one_outside set m k (before, s, after, e, long, out, some) =
-    inl ((λ all. out (all s (subst (Occurs s) (sym e) (occurs_right s before (s ∷ after) (inl refl))))), refl)
 
 -- it has a symbol of the set where the symbols of both are not none
 pub met_has : (set met both : ℕ) (m : Message) (none : Bool) → both ≡ bit_and met set → SymbolsMet m met → EmptyIs none both → Decides (not none) (HasOneOf set m)
@@ -98,23 +89,6 @@ module _ (s n : ℕ) (bounds : Repeats) (m : Message) (count : n ≡ occurrences
   outside_bounds true some (f, g) = ((λ e. absurd (false≢true e)), (λ breaks. absurd (breaks (λ h. subst (Between bounds.low bounds.high) count (f refl)))))
   outside_bounds false some (f, g) =
       ((λ e kept. false≢true (g (subst (Between bounds.low bounds.high) (sym count) (kept (some_counted s m (omega arith)))))), (λ breaks. refl))
-
--- and some message of a tree does exactly where its symbols are not all in the set
-module _ (t : Tree) (symbols set outside : ℕ) (are : SymbolsAre t symbols) (others : DifferenceIs symbols set outside) where
-  pub none_outside : EmptyIs true outside → FirstIs (SomeBreaks t) (upper_bound set ∷ []) None
-  none_outside none = inr (
-    (λ (m, fit, breaks). breaks (λ s h. elim (cases_in set s) [
-      | inl has ↦ has
-      | inr out ↦ absurd (none s ((others s).1 ((are s).1 (m, fit, h), out)))
-    ])),
-    refl,
-  )
-
-  pub some_outside : EmptyIs false outside → FirstIs (SomeBreaks t) (upper_bound set ∷ []) (Some ((upper_bound set).verdict))
-  some_outside (s, h) =
-      let (has, out) = (others s).0 h in
-      let (m, fit, occurs) = (are s).0 has in
-      inl ((m, fit, λ all. out (all s occurs)), refl)
 
 pub brings_breaks : (t : Tree) (first second : ℕ) (brings : Bool) → Always brings (λ m. Fits t m × HasOneOf first m) (HasOneOf second)
     → Decides (not brings) (SomeBreaks t (co_occurrence first second))

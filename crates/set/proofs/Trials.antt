@@ -7,14 +7,21 @@ use Rattle.models.proofs.Conflicts.{none_exactly}
 use Rattle.rules.specs.Rules.{Rule, Breaks, SomeBreaks, FirstIs}
 use Rattle.rules.specs.declared.verdict.Verdict.{Verdict}
 use Rattle.rules.proofs.Firsts.{one_answer}
+use Rattle.models.specs.Checked.{tree_of}
+use Rattle.set.specs.Chained.{AllOf}
+use Rattle.set.specs.declared.expected.Expected.{Expected}
 use Rattle.set.specs.Five.{upper_bound_rules, lower_bound_rules, cardinality_rules, co_occurrence_rules, order_rules, five}
 use Rattle.set.specs.Trials.{FitsToldBy, IncludedToldBy}
 use Rattle.set.proofs.Exact.{five_include, five_fit}
 
--- five lists one after another, each of its own tree, where they are all one tree
-pub five_asked : (P : Rule → Type 0) (t a b c d e : Tree) (answer : Option Verdict) → a ≡ t → b ≡ t → c ≡ t → d ≡ t → e ≡ t
-    → FirstIs P (upper_bound_rules a ++ (lower_bound_rules b ++ (cardinality_rules c ++ (co_occurrence_rules d ++ order_rules e)))) answer → FirstIs P (five t) answer
-five_asked P t a b c d e answer f g h i j first = rw (f, g, h, i, j) at first
+-- five lists one after another, each of its own model, where they are all of one
+pub five_asked : (P : Rule → Type 0) (t : Tree) (a b c d e : Expected) (answer : Option Verdict) → AllOf t a b c d e
+    → FirstIs P
+    (upper_bound_rules (tree_of a.model)
+    ++ (lower_bound_rules (tree_of b.model) ++ (cardinality_rules (tree_of c.model) ++ (co_occurrence_rules (tree_of d.model) ++ order_rules (tree_of e.model)))))
+    answer
+    → FirstIs P (five t) answer
+five_asked P t a b c d e answer (f, g, h, i, j) first = rw (f, g, h, i, j) at first
 
 module _ (expected : Tree) (formed : Formed expected) (free : first_conflict_of expected ≡ None) (answer : Option Verdict) where
   conflict_free : ConflictFree expected

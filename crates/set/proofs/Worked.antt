@@ -5,17 +5,17 @@ use Rattle.parts.specs.declared.part.Repeats.{Repeats}
 use Rattle.parts.specs.Sets.{In, only, symbols_below}
 use Rattle.parts.proofs.SymbolSets.{in_only}
 use Rattle.models.specs.Messages.{Message, Occurs, HasOneOf, occurrences, Shuffle, Joined}
-use Rattle.models.specs.Trees.{Tree, Fits, Stands, Between}
+use Rattle.models.specs.Trees.{Tree, Fits, Stands, Between, Formed}
 use Rattle.models.specs.Trees.Tree.{symbol, choice, sequence, interleave, count, nonempty}
 use Rattle.models.proofs.Counted.{counted_some, counted_shuffle}
 use Rattle.models.proofs.Occurrences.{occurs_left, occurs_right, shuffle_occurs_left, shuffle_occurs_right, Shuffle-append, Shuffle-append_back, repeated, joined_repeated}
 use Rattle.models.proofs.Ordered.{After-Shuffle}
 use Rattle.rules.specs.Rules.{Rule, KeepsAll, SomeBreaks, FirstIs}
 use Rattle.summaries.proofs.Carried.{carried_stands}
-use Rattle.models.specs.Conflicts.{first_conflict_of}
+use Rattle.models.specs.Conflicts.{ConflictFree, first_conflict_of}
 use Rattle.set.specs.Exact.{FiveInclude, Included}
 use Rattle.set.specs.Five.{verdict, five, upper_bound, lower_bound, cardinality, co_occurrence, order}
-use Rattle.set.specs.Worked.{a, b, c, maybe_a, maybe_b, Answered, WorkedPairs}
+use Rattle.set.specs.Worked.{a, b, c, maybe_a, maybe_b, Answered, AnsweredIncluded, WorkedPairs}
 
 -- j messages and then k more
 joined_append : (P : Message → Type 0) (j k : ℕ) (m n : Message) → Joined P j m → Joined P k n → Joined P (j + k) (m ++ n)
@@ -45,27 +45,20 @@ sequence_shuffled l r m (u, v, e, f, g) = (u, v, subst (Shuffle u v) e (Shuffle-
 
 -- where every message fits, no rule is broken
 module _ (include : FiveInclude) where
-  first_pair : Answered (count (count a 1 2) 1 2) (count a 1 4) None
-  first_pair = (
-    refl,
-    (include (count (count a 1 2) 1 2) (count a 1 4) (omega arith, (omega arith, omega arith, inr (omega arith, omega arith))) refl).1 included_counts,
-  )
+  all_fit : (sent expected : Tree) → Formed expected → ConflictFree expected → first_conflict_of expected ≡ None → Included sent expected → AnsweredIncluded sent expected
+  all_fit sent expected formed free none included = ((none, (include sent expected formed free).1 included), included)
 
-  fifth_pair : Answered (sequence a b) (interleave a b) None
-  fifth_pair = (
-    refl,
-    (include (sequence a b) (interleave a b) (omega arith, omega arith) (tt, tt, λ s h g. omega arith)).1 (sequence_shuffled a b),
-  )
+  first_pair : AnsweredIncluded (count (count a 1 2) 1 2) (count a 1 4)
+  first_pair = all_fit (count (count a 1 2) 1 2) (count a 1 4) (omega arith, (omega arith, omega arith, inr (omega arith, omega arith))) refl refl included_counts
 
-  eighth_pair : Answered (nonempty (sequence maybe_a maybe_b)) (nonempty (interleave maybe_a maybe_b)) None
+  fifth_pair : AnsweredIncluded (sequence a b) (interleave a b)
+  fifth_pair = all_fit (sequence a b) (interleave a b) (omega arith, omega arith) (tt, tt, λ s h g. omega arith) refl (sequence_shuffled a b)
+
+  eighth_pair : AnsweredIncluded (nonempty (sequence maybe_a maybe_b)) (nonempty (interleave maybe_a maybe_b))
   eighth_pair =
-      let alone : (s : ℕ) → Stands maybe_a s → Stands maybe_b s → ⊥ = λ s h g. ⊎_elim (λ x. ⊎_elim (λ y. omega arith) (λ y. y) g) (λ x. x) h in (
-        refl,
-        (include (nonempty (sequence maybe_a maybe_b)) (nonempty (interleave maybe_a maybe_b))
-            (((omega arith, tt), (omega arith, tt)), refl)
-            ((tt, tt, λ s h g. g), (tt, tt, λ s h g. g), alone)).1
-            (λ m (f, some). (sequence_shuffled maybe_a maybe_b m f, some)),
-      )
+      let alone : (s : ℕ) → Stands maybe_a s → Stands maybe_b s → ⊥ = λ s h g. ⊎_elim (λ x. ⊎_elim (λ y. omega arith) (λ y. y) g) (λ x. x) h in
+      all_fit (nonempty (sequence maybe_a maybe_b)) (nonempty (interleave maybe_a maybe_b)) (((omega arith, tt), (omega arith, tt)), refl) ((tt, tt, λ s h g. g), (tt, tt, λ s h g. g), alone) refl
+      (λ m (f, some). (sequence_shuffled maybe_a maybe_b m f, some))
 
 -- every message of the tree keeps each of the rules
 abbrev Keeps : Tree → List Rule → Type 0

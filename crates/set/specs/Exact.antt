@@ -25,7 +25,8 @@ IncludedExactly sent expected =
 abbrev pub FitsExactly : Tree → Message → Type 0
 FitsExactly t m = (FirstIs (Breaks m) (five t) None → Fits t m) × (Fits t m → FirstIs (Breaks m) (five t) None)
 
--- so it is for every conflict-free model
+-- so it is for every conflict-free model: exactness, and what no rule being broken says of a
+-- sent model and of a message
 abbrev pub FiveExact : Type 0
 FiveExact = (t : Tree) → Formed t → ConflictFree t → Exact t
 

@@ -9,3 +9,4 @@ pub mod Trials
 pub mod Asking
 pub mod Subjects
 pub mod Worked
+pub mod Chained

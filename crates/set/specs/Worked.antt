@@ -5,6 +5,7 @@ use Rattle.models.specs.Trees.{Tree}
 use Rattle.models.specs.Trees.Tree.{empty, symbol, choice, sequence, interleave, count, nonempty}
 use Rattle.rules.specs.Rules.{SomeBreaks}
 use Rattle.rules.specs.declared.verdict.Verdict.{Verdict}
+use Rattle.set.specs.Exact.{Included}
 use Rattle.set.specs.Five.{verdict}
 use Rattle.set.specs.Trials.{Tried}
 
@@ -29,13 +30,17 @@ maybe_b = choice b empty
 abbrev pub Answered : Tree → Tree → Option Verdict → Type 0
 Answered sent expected answer = Tried (SomeBreaks sent) expected (Ok answer)
 
+-- and every message of the sent model fits, so that none is broken
+abbrev pub AnsweredIncluded : Tree → Tree → Type 0
+AnsweredIncluded sent expected = Answered sent expected None × Included sent expected
+
 abbrev pub WorkedPairs : Type 0
 WorkedPairs =
-    Answered (count (count a 1 2) 1 2) (count a 1 4) None
+    AnsweredIncluded (count (count a 1 2) 1 2) (count a 1 4)
     × Answered (count (count a 1 2) 1 3) (count a 1 5) (Some (verdict 3 (only 0) 0 1 5))
     × Answered (count maybe_a 1 3) (count a 1 3) (Some (verdict 2 (only 0) 0 0 0))
     × Answered (count (sequence a b) 1 0) (sequence (count a 1 0) (count b 1 0)) (Some (verdict 5 (only 0) (only 1) 0 0))
-    × Answered (sequence a b) (interleave a b) None
+    × AnsweredIncluded (sequence a b) (interleave a b)
     × Answered (choice a c) (choice (sequence a b) c) (Some (verdict 4 (only 0) (only 1) 0 0))
     × Answered (interleave (sequence a b) c) (choice (sequence a b) c) (Some (verdict 5 (only 0) (only 2) 0 0))
-    × Answered (nonempty (sequence maybe_a maybe_b)) (nonempty (interleave maybe_a maybe_b)) None
+    × AnsweredIncluded (nonempty (sequence maybe_a maybe_b)) (nonempty (interleave maybe_a maybe_b))

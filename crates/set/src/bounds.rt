@@ -17,12 +17,12 @@ struct BoundsOf {
     symbol: u32,
 }
 
-/// What is told of the symbol.
+/// What is told of a part.
 #[derive(Clone, Copy)]
 struct Bounded {
-    /// Whether it stands in the part.
+    /// Whether the symbol stands in it.
     holds: bool,
-    /// The bounds of the count that takes it, or 1 and 1; of what does not hold it, any.
+    /// The bounds of the count that takes the symbol, or 1 and 1; where it does not stand, any.
     bounds: Repeats,
 }
 

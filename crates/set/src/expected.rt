@@ -1,4 +1,4 @@
-//! A conflict-free model, as the one expected, or judged by, has to be.
+//! A conflict-free model. The model that is expected, or judged by, has to be one.
 
 ghost use Rattle.std.specs.Prelude.{◌≡◌, Some, None, MatchResult};
 ghost use Rattle.models.specs.Checked.{tree_of};

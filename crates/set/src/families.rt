@@ -1,7 +1,8 @@
 //! The five rule families of an expected model, a file for each, and their chain.
 //! Only this crate makes them, of a model that was found conflict-free.
 
-ghost use Rattle.std.specs.Prelude.{◌≡◌};
+ghost use Rattle.models.specs.Checked.{tree_of};
+ghost use Rattle.set.specs.Chained.{AllOf};
 
 pub(crate) mod cardinality;
 pub(crate) mod co_occurrence;
@@ -25,7 +26,7 @@ pub(crate) type Five<'a> = Chain<
 
 /// The five families of the model.
 pub(crate) fn five<'a>(expected: Expected<'a>) -> Five<'a>
-    ensures { (result.first.expected ≡ expected.entry) × (result.second.first.expected ≡ expected.entry) × (result.second.second.first.expected ≡ expected.entry) × (result.second.second.second.first.expected ≡ expected.entry) × (result.second.second.second.second.expected ≡ expected.entry) }
+    ensures { AllOf (tree_of expected.entry.model) result.first.expected result.second.first.expected result.second.second.first.expected result.second.second.second.first.expected result.second.second.second.second.expected }
 {
     let order = SymbolOrder { expected };
     let from_co_occurrence = Chain::of(CoOccurrence { expected }, order);

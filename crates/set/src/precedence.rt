@@ -17,7 +17,7 @@ struct NotAfter {
     symbol: u32,
 }
 
-/// What is told of the symbol.
+/// What is told of a part.
 #[derive(Clone, Copy)]
 struct Marked {
     /// The symbols of the part.

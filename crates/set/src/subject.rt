@@ -18,8 +18,8 @@ pub(crate) mod one_message;
 pub(crate) trait Subject {
     ghost breaks: { Self → Rule → Type 0 };
 
-    /// The symbols that it has. It keeps the rules about how others occur, and that
-    /// others do not come after one.
+    /// The symbols that it has, at least: it keeps the rules about how others occur, and
+    /// that others do not come after one. The questions below may be asked of any symbol.
     fn symbols(&self) -> SymbolSet
         ensures { OthersKept (breaks self.now) result.bits };
 

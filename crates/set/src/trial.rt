@@ -1,7 +1,9 @@
 //! An expected model asked of one message, whether it fits, and of a sent model, whether all
 //! its messages do; where not, which rule is the first that is broken.
 //!
-//! These two calls stand until the message set has its own.
+//! A model that is not conflict-free cannot be asked: then its first conflict is told.
+//! docs/RULES.md has what an answer costs. These two calls stand until the message set has
+//! its own.
 
 ghost use Rattle.std.specs.Prelude.{IfOk};
 ghost use Rattle.models.specs.Checked.{tree_of};

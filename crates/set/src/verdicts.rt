@@ -1,7 +1,7 @@
 //! The verdicts of the five families.
 
 ghost use Rattle.std.specs.Prelude.{◌≡◌};
-ghost use Rattle.set.specs.Five.{upper_bound as upper_bound_rule, lower_bound as lower_bound_rule, cardinality as cardinality_rule, co_occurrence as co_occurrence_rule, order as order_rule};
+ghost use Rattle.set.specs.Five.{verdict, upper_bound as upper_bound_rule, lower_bound as lower_bound_rule, cardinality as cardinality_rule, co_occurrence as co_occurrence_rule, order as order_rule};
 
 use parts::part::Repeats;
 use parts::symbols::SymbolSet;
@@ -9,7 +9,7 @@ use rules::verdict::Verdict;
 
 // A verdict of the family that says nothing more.
 fn of_family(family: u32) -> Verdict
-    ensures { result ≡ record { family = family; first = record { bits = 0 }; second = record { bits = 0 }; low = 0; high = 0 } }
+    ensures { result ≡ verdict family 0 0 0 0 }
 {
     Verdict {
         family,

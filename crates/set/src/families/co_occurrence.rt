@@ -1,5 +1,5 @@
 //! Family 4: a symbol of one side of a sequence or interleave brings one of the other side.
-//! The rules are asked on the way through the sheet, which a summary of the model works up.
+//! The rules are asked on the way through the sheet, as a summary is worked up.
 
 ghost use Rattle.models.specs.Checked.{tree_of};
 ghost use Rattle.rules.specs.Rules.{FirstIs};

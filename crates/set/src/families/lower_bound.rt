@@ -1,9 +1,8 @@
 //! Family 2: some symbol of the model, unless the empty message fits.
 
-ghost use Rattle.std.specs.Prelude.{◌≡◌, true, false, MatchOption};
 ghost use Rattle.models.specs.Checked.{tree_of};
 ghost use Rattle.set.specs.Five.{lower_bound_rules};
-ghost use Rattle.set.specs.Holding.{symbols_in, takes_empty};
+ghost use Rattle.set.specs.Asking.{WantedIs};
 
 use crate::expected::Expected;
 use crate::message::has_one_of;
@@ -23,7 +22,7 @@ pub(crate) struct LowerBound<'a> {
 impl LowerBound<'_> {
     /// The symbols of which a message has to have one, if it has to.
     fn wanted(&self) -> Option<SymbolSet>
-        ensures { MatchOption result (takes_empty (tree_of self.now.expected.model) ≡ true) (λ set. (takes_empty (tree_of self.now.expected.model) ≡ false) × (set.bits ≡ symbols_in (tree_of self.now.expected.model))) }
+        ensures { WantedIs (tree_of self.now.expected.model) result }
     {
         if empty_fits(&self.expected.model) {
             return None;

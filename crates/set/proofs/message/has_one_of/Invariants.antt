@@ -1,5 +1,5 @@
 use Rattle.std.proofs.Common.{take}
-use Rattle.set.specs.Asking.{NoneIn}
+use Rattle.set.proofs.Sofar.{NoneIn}
 use Rattle.set.proofs.message.has_one_of.Given as goal
 
 abbrev pub invariant-loop-symbol : goal.invariant-loop-symbol

@@ -1,10 +1,9 @@
-use Rattle.std.proofs.Common.{◌≡◌, ap, ◌∙◌, None}
+use Rattle.std.proofs.Common.{◌≡◌, None}
 use Rattle.models.specs.Checked.{tree_of}
-use Rattle.models.proofs.Written.{model_sheet}
+use Rattle.set.proofs.Sets.{formed_of}
 use Rattle.models.specs.Conflicts.{first_conflict_of}
 use Rattle.rules.specs.Rules.{Breaks, FirstIs}
 use Rattle.set.specs.Five.{five}
-use Rattle.set.specs.declared.expected.Expected.{Expected}
 use Rattle.set.proofs.Exact.{five_exact, five_fit, values_tell}
 use Rattle.set.proofs.Trials.{five_asked, fits_told}
 use Rattle.set.proofs.trial.judge_message.Goals as goal
@@ -23,10 +22,9 @@ returns-clause-exact c = (five_exact, five_fit)
 
 first : (c : goal.After-broken_by_message) → FirstIs (Breaks c.args.message.now) (five (tree_of c.args.expected.now)) c.broken_by_message.result
 first c =
-    let own = c.in_ok-expected.ensures in
-    let (a, b, d, e, f) = c.five.ensures in
-    let tree = λ (x : Expected). tree_of x.model in
-    five_asked (Breaks c.args.message.now) (tree_of c.args.expected.now) _ _ _ _ _ _ (ap tree a ∙ own) (ap tree b ∙ own) (ap tree d ∙ own) (ap tree e ∙ own) (ap tree f ∙ own) c.broken_by_message.ensures
+    let f = c.five.result in
+    five_asked (Breaks c.args.message.now) (tree_of c.args.expected.now) f.first.expected f.second.first.expected f.second.second.first.expected f.second.second.second.first.expected f.second.second.second.second.expected _
+    (rw c.in_ok-expected.ensures at c.five.ensures) c.broken_by_message.ensures
 
 free : (c : goal.After-broken_by_message) → first_conflict_of (tree_of c.args.expected.now) ≡ None
 free c = rw c.in_ok-expected.ensures at c.in_ok-expected.expected.free
@@ -37,4 +35,4 @@ returns-clause-answer c = (free c, first c)
 pub returns-clause-fits : goal.returns-clause-fits
 returns-clause-fits c =
     let expected = c.args.expected.now in
-    fits_told (tree_of expected) (model_sheet expected.parts.now expected.checked).1 (free c) _ c.args.message.now (first c)
+    fits_told (tree_of expected) (formed_of expected) (free c) _ c.args.message.now (first c)

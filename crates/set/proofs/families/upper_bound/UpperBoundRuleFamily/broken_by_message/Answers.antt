@@ -1,6 +1,6 @@
 use Rattle.std.proofs.Common.{subst}
 use Rattle.set.specs.Asking.{FirstOutside}
-use Rattle.set.proofs.Subjects.{all_inside, one_outside}
+use Rattle.set.proofs.Outside.{all_inside, one_outside}
 use Rattle.set.proofs.families.upper_bound.UpperBoundRuleFamily.broken_by_message.Goals as goal
 
 pub returns-in_err-first_outside : goal.returns-in_err-first_outside

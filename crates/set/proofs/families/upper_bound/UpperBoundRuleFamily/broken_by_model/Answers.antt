@@ -1,7 +1,7 @@
 use Rattle.std.proofs.Common.{subst}
 use Rattle.models.specs.Checked.{tree_of}
 use Rattle.parts.specs.Sets.{EmptyIs}
-use Rattle.set.proofs.Subjects.{none_outside}
+use Rattle.set.proofs.Outside.{none_outside}
 use Rattle.set.proofs.families.upper_bound.UpperBoundRuleFamily.broken_by_model.Goals as goal
 
 pub returns-then-is_empty : goal.returns-then-is_empty

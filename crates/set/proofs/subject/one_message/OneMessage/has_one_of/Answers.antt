@@ -1,5 +1,5 @@
 use Rattle.std.proofs.Common.{sym, subst}
-use Rattle.set.specs.Asking.{SymbolsMet}
+use Rattle.set.proofs.Sofar.{SymbolsMet}
 use Rattle.set.proofs.Meeting.{met_in_is}
 use Rattle.set.proofs.Subjects.{met_has}
 use Rattle.set.proofs.subject.one_message.OneMessage.has_one_of.Goals as goal

@@ -1,5 +1,5 @@
 use Rattle.std.proofs.Common.{sym, subst}
-use Rattle.set.specs.Asking.{SymbolsMet}
+use Rattle.set.proofs.Sofar.{SymbolsMet}
 use Rattle.set.proofs.Meeting.{met_in_is}
 use Rattle.set.proofs.Subjects.{others_kept}
 use Rattle.set.proofs.subject.one_message.OneMessageSubject.symbols.Goals as goal
