@@ -33,7 +33,10 @@ mod tests {
         match answer_script(rt.alloc(), text, &mut out) {
             Err(Failure::BadLine { number, reason }) => {
                 assert_eq!(rt; number, 2);
-                assert_eq!(rt; reason.as_str(), "no such call: chek (calls: check, ask)");
+                assert_eq!(rt;
+                    reason.as_str(),
+                    "no such call: chek (calls: check, ask, try, fit)"
+                );
             }
             _ => return Err("no bad line".into()),
         }
