@@ -11,10 +11,11 @@ pub mod conflict;
 mod has_symbol;
 
 /// A sheet that has been checked: its 1 to 256 parts read to a tree. The check
-/// alone makes one. It stays a sheet, over the parts that were checked: a rule of the
-/// project (docs/DECISIONS.md, "Lent slices").
+/// makes one; whoever else makes one has to prove that its parts pass the check. It stays
+/// a sheet, over the parts that were checked: a rule of the project (docs/DECISIONS.md,
+/// "Lent slices").
 #[derive(Clone, Copy)]
 pub struct Model<'a> {
-    parts: &'a [Part],
-    ghost checked: { is_model parts.now ≡ true },
+    pub parts: &'a [Part],
+    pub ghost checked: { is_model parts.now ≡ true },
 }

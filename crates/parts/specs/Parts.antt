@@ -40,3 +40,7 @@ takes Sequence = 2
 takes Interleave = 2
 takes (Count repeats) = 1
 takes Nonempty = 1
+
+-- the part whose fields are all 0
+abbrev pub blank : Part
+blank = record { kind = 0; symbol = 0; low = 0; high = 0 }

@@ -5,7 +5,7 @@ use Rattle.parts.specs.declared.refusal.Layer.TheVariants as layer
 use Rattle.parts.specs.declared.refusal.PartFault.{PartFault}
 use Rattle.parts.specs.declared.refusal.PartFault.TheVariants.{UnknownKind, BadFields, TooFewWaiting, NoSymbolTaken, NotOneWaiting}
 use Rattle.parts.specs.declared.refusal.Refusal.{Refusal}
-use Rattle.parts.specs.declared.refusal.Refusal.TheVariants.{TableLength, Part}
+use Rattle.parts.specs.declared.refusal.Refusal.TheVariants.{SheetLength, NoSuchNumber, AlreadyDeclared, TableLength, Part, NotDeclared, Conflict, MessageLength, SymbolTooLarge}
 
 pub record Notice : Type 0 where
   pub number : ℕ
@@ -28,8 +28,15 @@ part_notice (NoSymbolTaken place) = at_part 8 place
 part_notice (NotOneWaiting length) = at_part 9 length
 
 abbrev pub notice : Refusal → Notice
+notice (SheetLength length) = at_set 1 length
+notice (NoSuchNumber number) = at_set 2 number
+notice (AlreadyDeclared number) = at_set 3 number
 notice (TableLength length) = at_set 4 length
 notice (Part fault) = part_notice fault
+notice (NotDeclared number) = at_set 10 number
+notice (Conflict place) = at_set 11 place
+notice (MessageLength length) = at_set 12 length
+notice (SymbolTooLarge place) = at_set 13 place
 
 -- what is printed of a layer
 abbrev pub layer_name_of : Layer → List ℕ

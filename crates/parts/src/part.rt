@@ -79,6 +79,14 @@ impl TryFrom<Part> for Form {
 }
 
 impl Part {
+    /// The part whose fields are all 0.
+    pub const BLANK: Part = Part {
+        kind: 0,
+        symbol: 0,
+        low: 0,
+        high: 0,
+    };
+
     /// Whether the fields that the kind uses are in range, and the others 0.
     pub fn fields_fit(&self) -> bool
         ensures { result ≡ are_fields_fit self.now }

@@ -32,10 +32,24 @@ pub enum PartFault {
 /// Why a call is refused.
 #[derive(Clone, Copy)]
 pub enum Refusal {
+    /// 1: a sheet of `length` parts, where 8,192 are wanted
+    SheetLength { length: usize },
+    /// 2: the set has no model numbered `number`; the numbers are 1 to 32
+    NoSuchNumber { number: u32 },
+    /// 3: a model is declared at `number` already
+    AlreadyDeclared { number: u32 },
     /// 4: a table of `length` parts, where 1 to 256 are wanted
     TableLength { length: usize },
     /// 5 to 9
     Part(PartFault),
+    /// 10: no model is declared at `number`
+    NotDeclared { number: u32 },
+    /// 11: the model that is expected, or judged by, has its first conflict at `place`
+    Conflict { place: usize },
+    /// 12: a message of `length` symbols, where 4,096 at most are wanted
+    MessageLength { length: usize },
+    /// 13: the symbol at `place` of the message is the first above 63
+    SymbolTooLarge { place: usize },
 }
 
 impl From<PartFault> for Refusal {
@@ -53,12 +67,19 @@ impl Refusal {
         ensures { result ≡ (notice self.now).number }
     {
         match self {
+            Refusal::SheetLength { .. } => 1,
+            Refusal::NoSuchNumber { .. } => 2,
+            Refusal::AlreadyDeclared { .. } => 3,
             Refusal::TableLength { .. } => 4,
             Refusal::Part(PartFault::UnknownKind { .. }) => 5,
             Refusal::Part(PartFault::BadFields { .. }) => 6,
             Refusal::Part(PartFault::TooFewWaiting { .. }) => 7,
             Refusal::Part(PartFault::NoSymbolTaken { .. }) => 8,
             Refusal::Part(PartFault::NotOneWaiting { .. }) => 9,
+            Refusal::NotDeclared { .. } => 10,
+            Refusal::Conflict { .. } => 11,
+            Refusal::MessageLength { .. } => 12,
+            Refusal::SymbolTooLarge { .. } => 13,
         }
     }
 
@@ -66,24 +87,32 @@ impl Refusal {
         ensures { result ≡ (notice self.now).layer }
     {
         match self {
-            Refusal::TableLength { .. } => Layer::Set,
             Refusal::Part(_) => Layer::Part,
+            _ => Layer::Set,
         }
     }
 
-    /// The part's place for 5 to 8, the length given for 4 and 9.
+    /// The part's place for 5 to 8, that of the first conflict for 11 and of the symbol for
+    /// 13, the length given for 1, 4, 9 and 12, the model's number for 2, 3 and 10.
     pub fn place(&self) -> usize
         ensures { result ≡ (notice self.now).place }
     {
         match self {
-            Refusal::TableLength { length } => *length,
-            Refusal::Part(
+            Refusal::SheetLength { length }
+            | Refusal::TableLength { length }
+            | Refusal::MessageLength { length }
+            | Refusal::Part(PartFault::NotOneWaiting { length }) => *length,
+            Refusal::NoSuchNumber { number }
+            | Refusal::AlreadyDeclared { number }
+            | Refusal::NotDeclared { number } => *number as usize,
+            Refusal::Conflict { place }
+            | Refusal::SymbolTooLarge { place }
+            | Refusal::Part(
                 PartFault::UnknownKind { place }
                 | PartFault::BadFields { place }
                 | PartFault::TooFewWaiting { place }
                 | PartFault::NoSymbolTaken { place },
             ) => *place,
-            Refusal::Part(PartFault::NotOneWaiting { length }) => *length,
         }
     }
 }
