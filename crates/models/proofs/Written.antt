@@ -151,7 +151,7 @@ taken_exactly ps t = (
 )
 
 -- the parts of a model are the sheet of its tree
-answered_ok : (o : Result Tree Notice) → is_ok o ≡ true → o ≡ Ok (tree_or empty o)
+pub answered_ok : (o : Result Tree Notice) → is_ok o ≡ true → o ≡ Ok (tree_or empty o)
 answered_ok (Ok t) e = refl
 answered_ok (Err n) e = absurd (false≢true e)
 

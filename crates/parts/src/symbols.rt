@@ -16,6 +16,9 @@ pub struct SymbolSet {
 impl SymbolSet {
     pub const EMPTY: SymbolSet = SymbolSet { bits: 0 };
 
+    /// All symbols, which are 0 to 63.
+    pub const ALL: SymbolSet = SymbolSet { bits: u64::MAX };
+
     /// The set of one symbol, empty where that is above 63. No `From<u32>`:
     /// it would read as the set with these bits.
     pub fn of(symbol: u32) -> SymbolSet

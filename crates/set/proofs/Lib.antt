@@ -15,6 +15,8 @@ pub mod Bounding
 pub mod Marking
 pub mod Ordering
 pub mod Bringing
-pub mod Trials
 pub mod Meeting
 pub mod Outside
+pub mod Leading
+pub mod Above
+pub mod Naming

@@ -15,6 +15,7 @@ use Rattle.summaries.proofs.Carried.{carried_stands}
 use Rattle.models.specs.Conflicts.{ConflictFree, first_conflict_of}
 use Rattle.set.specs.Exact.{FiveInclude, Included}
 use Rattle.set.specs.Five.{verdict, five, upper_bound, lower_bound, cardinality, co_occurrence, order}
+use Rattle.set.proofs.Exact.{five_include}
 use Rattle.set.specs.Worked.{a, b, c, maybe_a, maybe_b, Answered, AnsweredIncluded, WorkedPairs}
 
 -- j messages and then k more
@@ -209,5 +210,8 @@ seventh_pair =
     let broken : SomeBreaks sent (order 0 2) = (2 ∷ 0 ∷ 1 ∷ [], cab, λ k. k (inl (refl, inl refl))) in
     answered sent (choice (sequence a b) c) (bounds ++ brought) (order 0 2) rest refl refl kept broken
 
-pub worked_pairs : FiveInclude → WorkedPairs
+worked_pairs : FiveInclude → WorkedPairs
 worked_pairs include = (first_pair include, second_pair, third_pair, fourth_pair, fifth_pair include, sixth_pair, seventh_pair, eighth_pair include)
+
+pub pairs_worked : WorkedPairs
+pairs_worked = worked_pairs five_include

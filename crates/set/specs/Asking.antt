@@ -1,10 +1,13 @@
 -- What is found out about one message, and of which symbols it has to have one. Assumes nothing.
-use Rattle.std.specs.Prelude.{◌≡◌, ℕ, true, false, [], ◌∷◌, ◌++◌, length, Some, None, Option, bit_or}
+use Rattle.std.specs.Prelude.{◌≡◌, ℕ, true, false, [], ◌∷◌, ◌++◌, length, Some, None, Ok, Err, Option, Result, bit_or}
+use Rattle.parts.specs.Refusals.{notice}
 use Rattle.parts.specs.Sets.{In, only}
+use Rattle.parts.specs.declared.refusal.Refusal.{Refusal}
 use Rattle.parts.specs.declared.symbols.SymbolSet.{SymbolSet}
 use Rattle.models.specs.Messages.{Message, Occurs}
 use Rattle.models.specs.Trees.{Tree}
 use Rattle.set.specs.Holding.{symbols_in, takes_empty}
+use Rattle.set.specs.Questions.{first_no, length_question, symbols_question}
 
 -- the symbols of the message up to 63, as a set
 abbrev pub met_in : Message → ℕ
@@ -31,3 +34,8 @@ LastAt a m (Some k) =
 abbrev pub WantedIs : Tree → Option SymbolSet → Type 0
 WantedIs t None = takes_empty t ≡ true
 WantedIs t (Some set) = (takes_empty t ≡ false) × (set.bits ≡ symbols_in t)
+
+-- the length of the message and its symbols are asked for, in this order
+abbrev pub MessageAsked : Message → Result (Unit {0}) Refusal → Type 0
+MessageAsked m (Ok u) = first_no (length_question m ∷ symbols_question m ∷ []) ≡ None
+MessageAsked m (Err r) = first_no (length_question m ∷ symbols_question m ∷ []) ≡ Some (notice r)

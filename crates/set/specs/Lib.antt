@@ -5,8 +5,12 @@ pub mod Five
 pub mod Exact
 pub mod Ordering
 pub mod Bringing
-pub mod Trials
 pub mod Asking
 pub mod Subjects
 pub mod Worked
 pub mod Chained
+pub mod Histories
+pub mod Questions
+pub mod Law
+pub mod Leading
+pub mod Answering

@@ -1,13 +1,13 @@
 -- Pairs of a sent and an expected model, with what is answered of them. Assumes nothing.
-use Rattle.std.specs.Prelude.{Some, None, Ok, Option}
+use Rattle.std.specs.Prelude.{◌≡◌, Some, None, Option}
 use Rattle.parts.specs.Sets.{only}
+use Rattle.models.specs.Conflicts.{first_conflict_of}
 use Rattle.models.specs.Trees.{Tree}
 use Rattle.models.specs.Trees.Tree.{empty, symbol, choice, sequence, interleave, count, nonempty}
-use Rattle.rules.specs.Rules.{SomeBreaks}
+use Rattle.rules.specs.Rules.{SomeBreaks, FirstIs}
 use Rattle.rules.specs.declared.verdict.Verdict.{Verdict}
 use Rattle.set.specs.Exact.{Included}
-use Rattle.set.specs.Five.{verdict}
-use Rattle.set.specs.Trials.{Tried}
+use Rattle.set.specs.Five.{verdict, five}
 
 abbrev pub a : Tree
 a = symbol 0
@@ -28,7 +28,7 @@ maybe_b = choice b empty
 -- the expected model is conflict-free, and of its rules the answer is the first that some
 -- message of the sent one breaks
 abbrev pub Answered : Tree → Tree → Option Verdict → Type 0
-Answered sent expected answer = Tried (SomeBreaks sent) expected (Ok answer)
+Answered sent expected answer = (first_conflict_of expected ≡ None) × FirstIs (SomeBreaks sent) (five expected) answer
 
 -- and every message of the sent model fits, so that none is broken
 abbrev pub AnsweredIncluded : Tree → Tree → Type 0

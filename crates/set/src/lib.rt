@@ -1,14 +1,13 @@
-//! The five rule families of an expected model (`families`), and what is asked of them
-//! (`trial`).
+//! The message set (`message_set`), and the five rule families of an expected model
+//! (`families`), which its compare and judge ask.
 
 #![tactic(auto)]
 
 mod bounds;
-pub mod conflict;
 mod expected;
 mod families;
 mod message;
+pub mod message_set;
 mod precedence;
 mod subject;
-pub mod trial;
 mod verdicts;

@@ -81,3 +81,30 @@ numbered_means n m t =
     let (long, range) = and_parts (eqb n 8192) (leb 1 m && leb m 32) t in
     let (from, to) = and_parts (leb 1 m) (leb m 32) range in
     (eqb-true n 8192 long, leb-true 1 m from, leb-true m 32 to)
+
+-- which model each number has after a write of parts, and of a slot that tells of them
+pub model_written : (sheet ps : List Part) (slots : List Slot) (k : ℕ) (s : Slot) (m : ℕ)
+    → length sheet ≡ 8192 → k < 32 → length ps ≤ 256 → length slots ≡ 32 → Sound sheet slots
+    → model_at (written sheet k ps) (set slots k s) m ≡ cond (eqb m (suc k)) (model_in s (drop (256 * k) (written sheet k ps))) (model_at sheet slots m)
+model_written sheet ps slots k s zero long within few full sound = rw (ne_eqb zero (suc k) (λ e. omega (arith, e))) refl
+model_written sheet ps slots k s (suc j) long within few full sound =
+    ⊎_elim (λ e. rw (e, get_or-set_same slots k s Free (omega (arith, full, within)), eq-eqb (suc k) (suc k) refl) refl)
+    (λ ne.
+        rw (get_or-set_other slots k j s Free ne, ne_eqb (suc j) (suc k) (λ e. ne (omega (arith, e))))
+        (same_model (slot_at j slots) (length sheet) _ _ (sound j) (λ l h. other_front sheet ps k long within few j l h ne)))
+    (cases_eq j k)
+
+-- the model of a slot that tells of the parts just written
+pub own_model : (sheet ps : List Part) (k : ℕ) → length sheet ≡ 8192 → k < 32 → length ps ≤ 256
+    → model_in (Declared (length ps)) (drop (256 * k) (written sheet k ps)) ≡ Some ps
+own_model sheet ps k long within few =
+    ap Some (own_front sheet ps k long within few (length ps) few ∙ take_at ps (replicate (256 - length ps) blank) (length ps) refl)
+
+-- the other windows keep what they hold
+pub other_window : (sheet ps : List Part) (k j : ℕ) → length sheet ≡ 8192 → k < 32 → length ps ≤ 256 → (j ≡ k → ⊥) → window j (written sheet k ps) ≡ window j sheet
+other_window sheet ps k j long within few ne = other_front sheet ps k long within few j 256 (omega arith) ne
+
+-- where all slots are free there is no model
+pub model_free : (sheet : List Part) (slots : List Slot) → slots ≡ replicate 32 Free → (m : ℕ) → model_at sheet slots m ≡ None
+model_free sheet slots free zero = refl
+model_free sheet slots free (suc k) = rw (free_slots slots free k) refl

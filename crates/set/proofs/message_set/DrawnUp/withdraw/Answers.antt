@@ -1,0 +1,8 @@
+use Rattle.std.proofs.Common.{rules}
+use Rattle.set.proofs.Leading.{withdraw_steps}
+use Rattle.set.proofs.message_set.DrawnUp.withdraw.Goals as goal
+
+pub returns-clause-law : goal.returns-clause-law
+returns-clause-law c =
+    let store = c.args.self.now.store in
+    withdraw_steps store.sheet.now _ store.slots.at _ store.slots.full store.sound c.args.number _ (search rules) (search rules)
