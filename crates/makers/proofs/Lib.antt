@@ -1,0 +1,3 @@
+pub mod Meeting
+pub mod Smallest
+pub mod Boards

@@ -1,0 +1,3 @@
+pub mod Boards
+pub mod Found
+pub mod Machines
