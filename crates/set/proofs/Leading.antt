@@ -16,8 +16,9 @@ use Rattle.store.specs.Windows.{numbered, window, padded, written, slot_at, mode
 use Rattle.store.specs.declared.slot.Slot.{Slot}
 use Rattle.store.specs.declared.slot.Slot.TheVariants.{Free, Declared}
 use Rattle.store.proofs.Writes.{numbered_means, length_written, own_window, other_window, own_model, model_written, model_free}
-use Rattle.set.specs.Histories.{State, Asked, Told, Event, History, granted_told, is_granted, changed, stands, moved, state}
-use Rattle.set.specs.Histories.State.{drawn_up, issued}
+use Rattle.set.specs.declared.state.State.{State}
+use Rattle.set.specs.Histories.{Asked, Told, Event, History, granted_told, is_granted, changed, stands, moved, state}
+use Rattle.set.specs.declared.state.State.TheVariants.{DrawnUp, Issued}
 use Rattle.set.specs.Histories.Asked.{declare, withdraw, issue, recall, compare, judge}
 use Rattle.set.specs.Histories.Told.{granted, refused}
 use Rattle.set.specs.Law.{Ends, Granted, DeclareEnds, WithdrawEnds, CompareEnds, JudgeEnds, InDrawnUp, InIssued, Due}
@@ -30,7 +31,7 @@ stretch n k m x h = same_lists _ _ (search (rules, places, length-replicate)) (�
 
 -- a blank set has no history yet
 pub blank_leads : (first sheet : List Part) (slots : List Slot) → (length first ≡ 8192 → sheet ≡ replicate 8192 blank) → (length first ≢ 8192 → sheet ≡ first)
-    → slots ≡ replicate 32 Free → Leads first [] drawn_up sheet slots
+    → slots ≡ replicate 32 Free → Leads first [] DrawnUp sheet slots
 blank_leads first sheet slots filled unaltered free = record {
   state_is = refl;
   models = model_free sheet slots free;
@@ -110,17 +111,17 @@ module _ (first : List Part) (h : History) (s : State) (sheet : List Part) (slot
     by_history = subst (λ n. P n (stands h m)) led.shows.size (subst (P (length sheet)) (led.models m) by_set)
 
   module _ (Says : Told → Type 0) (told : Told) (says : Says told) where
-    pub taken_drawn_up : s ≡ drawn_up → InDrawnUp (state h) Says told
+    pub taken_drawn_up : s ≡ DrawnUp → InDrawnUp (state h) Says told
     taken_drawn_up is = subst (λ x. InDrawnUp x Says told) (sym (led.state_is ∙ is)) says
 
-    pub taken_issued : s ≡ issued → InIssued (state h) Says told
+    pub taken_issued : s ≡ Issued → InIssued (state h) Says told
     taken_issued is = subst (λ x. InIssued x Says told) (sym (led.state_is ∙ is)) says
 
 module _ (sheet sheet′ : List Part) (slots slots′ : List Slot) (full : length slots ≡ 32) (sound : Sound sheet slots) (m : ℕ) where
   declared_leads : (ps : List Part) (r : Result (Unit {0}) Refusal) → DeclareEnds (length sheet) (model_at sheet slots m) m ps (granted_told r)
       → Leaves m ps (Declared (length ps)) r sheet slots sheet′ slots′
-      → (first : List Part) (h : History) → Leads first h drawn_up sheet slots
-      → Leads first (record { asked = declare m ps; told = granted_told r } ∷ h) drawn_up sheet′ slots′
+      → (first : List Part) (h : History) → Leads first h DrawnUp sheet slots
+      → Leads first (record { asked = declare m ps; told = granted_told r } ∷ h) DrawnUp sheet′ slots′
   declared_leads ps (Ok u) answer (now, slots_now) first h led =
       let table = table_question ps ∷ [] in
       let free = free_question (model_at sheet slots m) m ∷ table in
@@ -132,54 +133,54 @@ module _ (sheet sheet′ : List Part) (slots slots′ : List Slot) (full : lengt
       let (long, from, to) = numbered_means (length sheet) m number in
       let within : m - 1 < 32 = omega (arith, from, to) in
       rw (now, slots_now)
-          (leads_written first h drawn_up sheet slots led _ m ps (Declared (length ps)) few number full sound (Some ps) led.state_is (λ i. refl) (own_model sheet ps (m - 1) long within few) refl)
-  declared_leads ps (Err e) answer (now, slots_now) first h led = rw (now, slots_now) (leads_same first h drawn_up sheet slots led _ drawn_up led.state_is (λ i. refl))
+          (leads_written first h DrawnUp sheet slots led _ m ps (Declared (length ps)) few number full sound (Some ps) led.state_is (λ i. refl) (own_model sheet ps (m - 1) long within few) refl)
+  declared_leads ps (Err e) answer (now, slots_now) first h led = rw (now, slots_now) (leads_same first h DrawnUp sheet slots led _ DrawnUp led.state_is (λ i. refl))
 
   withdrawn_leads : (r : Result (Unit {0}) Refusal) → WithdrawEnds (length sheet) (model_at sheet slots m) m (granted_told r)
       → Leaves m [] Free r sheet slots sheet′ slots′
-      → (first : List Part) (h : History) → Leads first h drawn_up sheet slots
-      → Leads first (record { asked = withdraw m; told = granted_told r } ∷ h) drawn_up sheet′ slots′
+      → (first : List Part) (h : History) → Leads first h DrawnUp sheet slots
+      → Leads first (record { asked = withdraw m; told = granted_told r } ∷ h) DrawnUp sheet′ slots′
   withdrawn_leads (Ok u) answer (now, slots_now) first h led =
       let declared = declared_question (model_at sheet slots m) m ∷ [] in
       let (is_number, rest) = first_no_parts (number_question (length sheet) m) declared (ended_granted (first_no (number_question (length sheet) m ∷ declared)) answer) in
       let number = yes_told (numbered (length sheet) m) _ is_number in
       rw (now, slots_now)
-          (leads_written first h drawn_up sheet slots led _ m [] Free (omega arith) number full sound None led.state_is (λ i. refl) refl refl)
-  withdrawn_leads (Err e) answer (now, slots_now) first h led = rw (now, slots_now) (leads_same first h drawn_up sheet slots led _ drawn_up led.state_is (λ i. refl))
+          (leads_written first h DrawnUp sheet slots led _ m [] Free (omega arith) number full sound None led.state_is (λ i. refl) refl refl)
+  withdrawn_leads (Err e) answer (now, slots_now) first h led = rw (now, slots_now) (leads_same first h DrawnUp sheet slots led _ DrawnUp led.state_is (λ i. refl))
 
   pub declare_steps : (ps : List Part) (r : Result (Unit {0}) Refusal) → DeclareEnds (length sheet) (model_at sheet slots m) m ps (granted_told r)
       → Leaves m ps (Declared (length ps)) r sheet slots sheet′ slots′
-      → Steps [] (declare m ps) (granted_told r) drawn_up sheet slots drawn_up sheet′ slots′
+      → Steps [] (declare m ps) (granted_told r) DrawnUp sheet slots DrawnUp sheet′ slots′
   declare_steps ps r answer leaves first h led = (
-    taken_drawn_up first h drawn_up sheet slots led (DeclareEnds (length first) (stands h m) m ps) (granted_told r)
-        (by_history first h drawn_up sheet slots led (λ n was. DeclareEnds n was m ps (granted_told r)) m answer) refl,
+    taken_drawn_up first h DrawnUp sheet slots led (DeclareEnds (length first) (stands h m) m ps) (granted_told r)
+        (by_history first h DrawnUp sheet slots led (λ n was. DeclareEnds n was m ps (granted_told r)) m answer) refl,
     declared_leads ps r answer leaves first h led,
   )
 
   pub withdraw_steps : (r : Result (Unit {0}) Refusal) → WithdrawEnds (length sheet) (model_at sheet slots m) m (granted_told r)
       → Leaves m [] Free r sheet slots sheet′ slots′
-      → Steps [] (withdraw m) (granted_told r) drawn_up sheet slots drawn_up sheet′ slots′
+      → Steps [] (withdraw m) (granted_told r) DrawnUp sheet slots DrawnUp sheet′ slots′
   withdraw_steps r answer leaves first h led = (
-    taken_drawn_up first h drawn_up sheet slots led (WithdrawEnds (length first) (stands h m) m) (granted_told r)
-        (by_history first h drawn_up sheet slots led (λ n was. WithdrawEnds n was m (granted_told r)) m answer) refl,
+    taken_drawn_up first h DrawnUp sheet slots led (WithdrawEnds (length first) (stands h m) m) (granted_told r)
+        (by_history first h DrawnUp sheet slots led (λ n was. WithdrawEnds n was m (granted_told r)) m answer) refl,
     withdrawn_leads r answer leaves first h led,
   )
 
 module _ (sheet : List Part) (slots : List Slot) where
   -- a compare and a judge alter nothing
   pub compare_steps : (behind : List Rule) (s e : ℕ) (told : Told) → CompareEnds behind (length sheet) (model_at sheet slots s) (model_at sheet slots e) s e told
-      → Steps behind (compare s e) told issued sheet slots issued sheet slots
+      → Steps behind (compare s e) told Issued sheet slots Issued sheet slots
   compare_steps behind s e told answer first h led =
       let sent_stands = subst (λ was. CompareEnds behind (length sheet) was (model_at sheet slots e) s e told) (led.models s) answer in (
-        taken_issued first h issued sheet slots led (CompareEnds behind (length first) (stands h s) (stands h e) s e) told
-            (by_history first h issued sheet slots led (λ n was. CompareEnds behind n (stands h s) was s e told) e sent_stands) refl,
-        leads_same first h issued sheet slots led _ issued led.state_is (λ m. refl),
+        taken_issued first h Issued sheet slots led (CompareEnds behind (length first) (stands h s) (stands h e) s e) told
+            (by_history first h Issued sheet slots led (λ n was. CompareEnds behind n (stands h s) was s e told) e sent_stands) refl,
+        leads_same first h Issued sheet slots led _ Issued led.state_is (λ m. refl),
       )
 
   pub judge_steps : (m : ℕ) (message : Message) (told : Told) → JudgeEnds (length sheet) (model_at sheet slots m) m message told
-      → Steps [] (judge m message) told issued sheet slots issued sheet slots
+      → Steps [] (judge m message) told Issued sheet slots Issued sheet slots
   judge_steps m message told answer first h led = (
-    taken_issued first h issued sheet slots led (JudgeEnds (length first) (stands h m) m message) told
-        (by_history first h issued sheet slots led (λ n was. JudgeEnds n was m message told) m answer) refl,
-    leads_same first h issued sheet slots led _ issued led.state_is (λ i. refl),
+    taken_issued first h Issued sheet slots led (JudgeEnds (length first) (stands h m) m message) told
+        (by_history first h Issued sheet slots led (λ n was. JudgeEnds n was m message told) m answer) refl,
+    leads_same first h Issued sheet slots led _ Issued led.state_is (λ i. refl),
   )

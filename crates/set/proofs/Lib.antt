@@ -20,3 +20,5 @@ pub mod Outside
 pub mod Leading
 pub mod Above
 pub mod Naming
+pub mod Standing
+pub mod Fixing

@@ -1,15 +1,12 @@
 -- What one message set was asked from blank on, call by call, and what it answered; which model stands then, and in which state the set is. Assumes nothing.
-use Rattle.std.specs.Prelude.{◌≡◌, ℕ, Bool, true, false, cond, ◌&&◌, ◌⊎◌, List, [], ◌∷◌, ◌++◌, Some, None, Ok, Err, Option, Result, ◌==◌}
+use Rattle.std.specs.Prelude.{◌≡◌, ℕ, Bool, true, false, cond, ◌&&◌, List, [], ◌∷◌, ◌++◌, Some, None, Ok, Err, Option, Result, ◌==◌}
 use Rattle.parts.specs.Refusals.{Notice, notice}
 use Rattle.parts.specs.declared.part.Part.{Part}
 use Rattle.parts.specs.declared.refusal.Refusal.{Refusal}
 use Rattle.models.specs.Messages.{Message}
 use Rattle.rules.specs.declared.verdict.Verdict.{Verdict}
-
--- a set is drawn up, when models are declared and withdrawn, or issued, when they are compared and judged by
-pub data State : Type 0 where
-  drawn_up : State
-  issued : State
+use Rattle.set.specs.declared.state.State.{State}
+use Rattle.set.specs.declared.state.State.TheVariants.{DrawnUp, Issued}
 
 -- what a set is asked; what hangs behind a compare is told beside it
 pub data Asked : Type 0 where
@@ -78,27 +75,32 @@ stands (e ∷ h) m = changed e.asked e.told m (stands h m)
 abbrev pub moved : Asked → Told → State → State
 moved (declare n ps) told s = s
 moved (withdraw n) told s = s
-moved issue told s = cond (is_granted told) issued s
-moved recall told s = cond (is_granted told) drawn_up s
+moved issue told s = cond (is_granted told) Issued s
+moved recall told s = cond (is_granted told) DrawnUp s
 moved (compare n e) told s = s
 moved (judge n message) told s = s
 
 abbrev pub state : History → State
-state [] = drawn_up
+state [] = DrawnUp
 state (e ∷ h) = moved e.asked e.told (state h)
 
 -- a declare with these parts was granted at the number m
 abbrev pub Declared : ℕ → List Part → Event → Type 0
 Declared m ps e = (e.asked ≡ declare m ps) × (e.told ≡ granted)
 
--- a declare at the number m or a withdraw of it was granted
-abbrev pub Altered : ℕ → Event → Type 0
-Altered m e = (is_granted e.told ≡ true) × ((e.asked ≡ withdraw m) ⊎ ((ps : List Part) × (e.asked ≡ declare m ps)))
+-- the call is a declare at the number m, or a withdraw of it
+abbrev pub alters : Asked → ℕ → Bool
+alters (declare n ps) m = m == n
+alters (withdraw n) m = m == n
+alters issue m = false
+alters recall m = false
+alters (compare s e) m = false
+alters (judge n message) m = false
 
--- no call of these altered what stands at the number m
+-- no declare at the number m, and no withdraw of it, was granted
 abbrev pub NoneAltered : ℕ → History → Type 0
 NoneAltered m [] = Unit {0}
-NoneAltered m (e ∷ h) = (Altered m e → ⊥) × NoneAltered m h
+NoneAltered m (e ∷ h) = ((is_granted e.told && alters e.asked m) ≡ false) × NoneAltered m h
 
 -- so the model that stands is the one last declared
 abbrev pub LastDeclared : History → ℕ → List Part → Type 0

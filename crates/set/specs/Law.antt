@@ -9,8 +9,9 @@ use Rattle.rules.specs.Rules.{Rule, Breaks, SomeBreaks, FirstIs}
 use Rattle.rules.specs.declared.verdict.Verdict.{Verdict}
 use Rattle.set.specs.Exact.{Included}
 use Rattle.set.specs.Five.{five}
-use Rattle.set.specs.Histories.{State, Asked, Told, History, named, stands, state}
-use Rattle.set.specs.Histories.State.{drawn_up, issued}
+use Rattle.set.specs.declared.state.State.{State}
+use Rattle.set.specs.Histories.{Asked, Told, History, named, stands, state}
+use Rattle.set.specs.declared.state.State.TheVariants.{DrawnUp, Issued}
 use Rattle.set.specs.Histories.Asked.{declare, withdraw, issue, recall, compare, judge}
 use Rattle.set.specs.Histories.Told.{granted, included, fits, names, refused, not_taken}
 use Rattle.set.specs.Questions.{first_no, number_question, free_question, table_question, declared_question, conflict_question, length_question, symbols_question}
@@ -80,12 +81,12 @@ JudgeEnds n was m message = Ends (judge_asked n was m message) (λ told. (t : Tr
 
 -- a call that belongs to a set drawn up, or to an issued one, is not taken in the other state
 abbrev pub InDrawnUp : State → (Told → Type 0) → Told → Type 0
-InDrawnUp drawn_up Says told = Says told
-InDrawnUp issued Says told = told ≡ not_taken issued
+InDrawnUp DrawnUp Says told = Says told
+InDrawnUp Issued Says told = told ≡ not_taken Issued
 
 abbrev pub InIssued : State → (Told → Type 0) → Told → Type 0
-InIssued drawn_up Says told = told ≡ not_taken drawn_up
-InIssued issued Says told = Says told
+InIssued DrawnUp Says told = told ≡ not_taken DrawnUp
+InIssued Issued Says told = Says told
 
 -- what a call is answered after the history h on a sheet of n parts, with these rules hung behind where it is a compare
 abbrev pub Due : List Rule → ℕ → History → Asked → Told → Type 0

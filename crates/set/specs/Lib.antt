@@ -14,3 +14,4 @@ pub mod Questions
 pub mod Law
 pub mod Leading
 pub mod Answering
+pub mod Keeping

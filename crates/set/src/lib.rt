@@ -9,5 +9,6 @@ mod families;
 mod message;
 pub mod message_set;
 mod precedence;
+pub mod state;
 mod subject;
 mod verdicts;

@@ -1,7 +1,7 @@
 -- What a write into one window leaves of a sheet, and of what its slots tell of. Assumes nothing.
 use Rattle.std.proofs.Common.{◌≡◌, ℕ, zero, suc, ◌+◌, ◌-◌, ◌*◌, ◌<◌, ◌≤◌, Bool, true, false, ◌&&◌, cond, List, ◌∷◌, ◌++◌, length, replicate, take, drop, get_or, set, Some, None, refl, sym, ap, ◌∙◌, inl, inr, ⊎_elim, eqb, leb, rules, arith}
 use Rattle.std.proofs.lemmas.List.{same_lists, places, append_assoc, length-append, length-take, length-take-le, length-drop, length-replicate, drop_at, take_at, take-append-le, get_or-set_same, get_or-set_other, get_or_past, get_or-replicate}
-use Rattle.std.proofs.lemmas.Bool.{and_parts, and_from, leb-true, eqb-true, eq-eqb, ne_eqb, cases_eq, cases_lt}
+use Rattle.std.proofs.lemmas.Bool.{and_parts, le-leb, leb-true, eqb-true, eq-eqb, ne_eqb, cases_eq, cases_lt}
 use borrow.Rule.Slice.PartMut.{put_mid}
 use Rattle.parts.specs.Parts.{blank}
 use Rattle.parts.specs.declared.part.Part.{Part}
@@ -108,3 +108,15 @@ other_window sheet ps k j long within few ne = other_front sheet ps k long withi
 pub model_free : (sheet : List Part) (slots : List Slot) → slots ≡ replicate 32 Free → (m : ℕ) → model_at sheet slots m ≡ None
 model_free sheet slots free zero = refl
 model_free sheet slots free (suc k) = rw (free_slots slots free k) refl
+
+-- a slot that tells of a checked model is sound
+pub model_sound : (ps : List Part) → length ps ≤ 256 → is_model ps ≡ true → is_sound 8192 (Declared (length ps)) (padded ps) ≡ true
+model_sound ps few checked = rw (le-leb (length ps) 256 few, take_at ps (replicate (256 - length ps) blank) (length ps) refl) checked
+
+-- what is kept in the window of a number, and its slot
+pub sound_kept : (sheet ps : List Part) (slots : List Slot) (m k : ℕ) (s : Slot)
+    → numbered (length sheet) m ≡ true → k + 1 ≡ m → length ps ≤ 256 → length slots ≡ 32 → Sound sheet slots → is_sound 8192 s (padded ps) ≡ true
+    → Sound (written sheet k ps) (set slots k s)
+sound_kept sheet ps slots m k s is_number next few full sound own =
+    let (long, from, to) = numbered_means (length sheet) m is_number in
+    sound_written sheet ps slots k s long (omega (arith, next, to)) few full sound own

@@ -1,6 +1,8 @@
 -- A sheet that keeps models, one in each of its windows of 256 parts, and what its slots say. Assumes nothing.
-use Rattle.std.specs.Prelude.{◌≡◌, ℕ, zero, suc, ◌+◌, ◌-◌, ◌*◌, Bool, true, cond, ◌&&◌, List, ◌++◌, length, replicate, take, drop, get_or, Some, None, Option, ◌==◌, nat_le}
+use Rattle.std.specs.Prelude.{◌≡◌, ℕ, zero, suc, ◌+◌, ◌-◌, ◌*◌, Bool, true, false, cond, ◌&&◌, List, ◌++◌, length, replicate, take, drop, get_or, Some, None, Ok, Err, Option, Result, ◌==◌, nat_le}
 use Rattle.parts.specs.Parts.{blank}
+use Rattle.parts.specs.Refusals.{notice, at_set}
+use Rattle.parts.specs.declared.refusal.Refusal.{Refusal}
 use Rattle.parts.specs.declared.part.Part.{Part}
 use Rattle.models.specs.Sheets.{is_model}
 use Rattle.store.specs.declared.slot.Slot.{Slot}
@@ -42,3 +44,17 @@ is_sound n (Declared l) w = n == 8192 && (nat_le l 256 && is_model (take l w))
 
 abbrev pub Sound : List Part → List Slot → Type 0
 Sound sheet slots = (k : ℕ) → is_sound (length sheet) (slot_at k slots) (drop (256 * k) sheet) ≡ true
+
+-- a number that is none of a sheet of n parts is refused 2, placed at it
+abbrev pub Unnumbered : ℕ → ℕ → Refusal → Type 0
+Unnumbered n m r = (numbered n m ≡ false) × (notice r ≡ at_set 2 m)
+
+-- the place of the window of the number m, and of its slot
+abbrev pub Placed : ℕ → ℕ → Result ℕ Refusal → Type 0
+Placed n m (Ok k) = (numbered n m ≡ true) × (k + 1 ≡ m)
+Placed n m (Err r) = Unnumbered n m r
+
+-- the window of the number m holds these parts from now on; nothing is altered for a number that is none
+abbrev pub WindowIs : ℕ → List Part → List Part → Result ℕ Refusal → List Part → Type 0
+WindowIs m ps sheet (Ok k) sheet′ = (numbered (length sheet) m ≡ true) × (k + 1 ≡ m) × (sheet′ ≡ written sheet k ps)
+WindowIs m ps sheet (Err r) sheet′ = Unnumbered (length sheet) m r × (sheet′ ≡ sheet)

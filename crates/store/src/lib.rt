@@ -1,11 +1,8 @@
-//! Models kept by their numbers on a sheet that the caller lends: the windows of the sheet
-//! (`windows`), the table of the slots (`slot`, `slots`), and the store (`store`), which
-//! knows that what a slot tells of is a checked model.
+//! What a message set keeps of its models: which numbers have one (`slot`, `slots`), and
+//! their parts, each model's in its window of the caller's sheet (`windows`).
 
 #![tactic(auto)]
 
 pub mod slot;
-mod slots;
-pub mod store;
-
-mod windows;
+pub mod slots;
+pub mod windows;

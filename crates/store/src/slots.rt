@@ -1,23 +1,24 @@
 //! The table of the 32 slots.
 
-ghost use Rattle.std.specs.Prelude.{◌≡◌, ◌<◌, length, replicate, slice_set};
+ghost use Rattle.std.specs.Prelude.{◌≡◌, length, replicate, slice_set};
 ghost use Rattle.store.specs.Windows.{slot_at};
 ghost use Rattle.store.specs.declared.slot.Slot.TheVariants.{Free};
 
 use crate::slot::Slot;
 
 /// How many models are kept at most.
-pub(crate) const MODELS: usize = 32;
+pub const MODELS: usize = 32;
 
 /// One slot for each number, that of number 1 first.
 #[derive(Drop)]
-pub(crate) struct Slots {
+pub struct Slots {
     at: [Slot; MODELS],
-    ghost full: { length at ≡ 32 },
+    pub ghost full: { length at ≡ 32 },
 }
 
 impl Slots {
-    pub(crate) fn free() -> Slots
+    /// No number has a model.
+    pub fn free() -> Slots
         ensures { result.at ≡ replicate 32 Free }
     {
         Slots {
@@ -25,17 +26,23 @@ impl Slots {
         }
     }
 
-    pub(crate) fn get(&self, place: usize) -> Slot
-        requires { place < 32 }
+    /// The slot at a place; past the last one all are free.
+    pub fn get(&self, place: usize) -> Slot
         ensures { result ≡ slot_at place self.now.at }
     {
-        self.at[place]
+        if place < MODELS {
+            self.at[place]
+        } else {
+            Slot::Free
+        }
     }
 
-    pub(crate) fn put(&mut self, place: usize, slot: Slot)
-        requires { place < 32 }
+    /// Changes the slot at a place, if there is one.
+    pub fn put(&mut self, place: usize, slot: Slot)
         ensures { self.new.at ≡ slice_set self.old.at place slot }
     {
-        self.at[place] = slot;
+        if place < MODELS {
+            self.at[place] = slot;
+        }
     }
 }

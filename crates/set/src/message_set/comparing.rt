@@ -6,12 +6,14 @@ ghost use Rattle.set.specs.Answering.{PairAsked, JudgeAsked};
 ghost use Rattle.set.specs.Exact.{FiveExact, FiveFit, FiveInclude, ValuesTell};
 ghost use Rattle.set.specs.Histories.{verdict_told};
 ghost use Rattle.set.specs.Histories.Asked.{compare as comparing, judge as judging, recall as recalling};
-ghost use Rattle.set.specs.Histories.State.{drawn_up, issued};
+ghost use Rattle.set.specs.declared.state.State.TheVariants.{DrawnUp as drawn_up, Issued as issued};
 ghost use Rattle.set.specs.Histories.Told.{granted, included, fits};
+ghost use Rattle.set.specs.Keeping.{Found};
 ghost use Rattle.set.specs.Law.{CompareEnds, JudgeEnds};
 ghost use Rattle.set.specs.Leading.{Steps};
 ghost use Rattle.set.specs.Worked.{WorkedPairs};
 
+use super::keeping::find;
 use super::questions::{check_message, declared};
 use super::{DrawnUp, Issued};
 use crate::expected::Expected;
@@ -23,12 +25,18 @@ use rules::family::RuleFamily;
 use rules::verdict::Verdict;
 
 impl<'a> Issued<'a> {
+    fn find(&self, number: u32) -> Result<Option<Model<'_>>, Refusal>
+        ensures { Found self.now.sheet.now self.now.slots.at number result }
+    {
+        find(self.sheet, &self.slots, number)
+    }
+
     // The questions of compare, and the models that it compares.
     fn pair(&self, sent: u32, expected: u32) -> Result<(Model<'_>, Expected<'_>), Refusal>
-        ensures { PairAsked self.now.store.sheet.now self.now.store.slots.at sent expected result }
+        ensures { PairAsked self.now.sheet.now self.now.slots.at sent expected result }
     {
-        let sent_found = self.store.model(sent)?;
-        let expected_found = self.store.model(expected)?;
+        let sent_found = self.find(sent)?;
+        let expected_found = self.find(expected)?;
         let sent_model = declared(sent_found, sent)?;
         let expected_model = declared(expected_found, expected)?;
         let conflict_free = Expected::of(&expected_model)?;
@@ -37,9 +45,9 @@ impl<'a> Issued<'a> {
 
     // The questions of judge, and the model that it judges by.
     fn judged_by(&self, number: u32, message: &[u32]) -> Result<Expected<'_>, Refusal>
-        ensures { JudgeAsked self.now.store.sheet.now self.now.store.slots.at number message.now result }
+        ensures { JudgeAsked self.now.sheet.now self.now.slots.at number message.now result }
     {
-        let found = self.store.model(number)?;
+        let found = self.find(number)?;
         let model = declared(found, number)?;
         let conflict_free = Expected::of(&model)?;
         check_message(message)?;
@@ -56,8 +64,8 @@ impl<'a> Issued<'a> {
         expected: u32,
         behind: &F,
     ) -> Result<Option<Verdict>, Refusal>
-        ensures answer { CompareEnds (F.rules behind.now) (length self.now.store.sheet.now) (model_at self.now.store.sheet.now self.now.store.slots.at sent) (model_at self.now.store.sheet.now self.now.store.slots.at expected) sent expected (verdict_told included result) }
-        ensures law { Steps (F.rules behind.now) (comparing sent expected) (verdict_told included result) issued self.now.store.sheet.now self.now.store.slots.at issued self.now.store.sheet.now self.now.store.slots.at }
+        ensures answer { CompareEnds (F.rules behind.now) (length self.now.sheet.now) (model_at self.now.sheet.now self.now.slots.at sent) (model_at self.now.sheet.now self.now.slots.at expected) sent expected (verdict_told included result) }
+        ensures law { Steps (F.rules behind.now) (comparing sent expected) (verdict_told included result) issued self.now.sheet.now self.now.slots.at issued self.now.sheet.now self.now.slots.at }
         ensures exact { FiveInclude }
         ensures worked { WorkedPairs }
     {
@@ -68,8 +76,8 @@ impl<'a> Issued<'a> {
 
     /// The first rule of the model at a number that the message breaks; none where it fits.
     pub fn judge(&self, number: u32, message: &[u32]) -> Result<Option<Verdict>, Refusal>
-        ensures answer { JudgeEnds (length self.now.store.sheet.now) (model_at self.now.store.sheet.now self.now.store.slots.at number) number message.now (verdict_told fits result) }
-        ensures law { Steps [] (judging number message.now) (verdict_told fits result) issued self.now.store.sheet.now self.now.store.slots.at issued self.now.store.sheet.now self.now.store.slots.at }
+        ensures answer { JudgeEnds (length self.now.sheet.now) (model_at self.now.sheet.now self.now.slots.at number) number message.now (verdict_told fits result) }
+        ensures law { Steps [] (judging number message.now) (verdict_told fits result) issued self.now.sheet.now self.now.slots.at issued self.now.sheet.now self.now.slots.at }
         ensures exact { FiveExact × FiveFit }
         ensures values { ValuesTell }
     {
@@ -79,11 +87,11 @@ impl<'a> Issued<'a> {
 
     /// The set, drawn up again.
     pub fn recall(self) -> DrawnUp<'a>
-        ensures same { (result.store.sheet.now ≡ self.entry.store.sheet.now) × (result.store.slots.at ≡ self.entry.store.slots.at) }
-        ensures lender { result.store.sheet.ghost_name ≡ self.entry.store.sheet.ghost_name }
-        ensures law { Steps [] recalling granted issued self.entry.store.sheet.now self.entry.store.slots.at drawn_up result.store.sheet.now result.store.slots.at }
+        ensures same { (result.sheet.now ≡ self.entry.sheet.now) × (result.slots.at ≡ self.entry.slots.at) }
+        ensures lender { result.sheet.ghost_name ≡ self.entry.sheet.ghost_name }
+        ensures law { Steps [] recalling granted issued self.entry.sheet.now self.entry.slots.at drawn_up result.sheet.now result.slots.at }
     {
-        let Issued { store } = self;
-        DrawnUp { store }
+        let Issued { sheet, slots } = self;
+        DrawnUp { sheet, slots }
     }
 }

@@ -8,7 +8,7 @@ use Rattle.set.proofs.message_set.Issued.compare.Goals as goal
 
 pub returns-clause-answer : goal.returns-clause-answer
 returns-clause-answer g c =
-    let store = c.args.self.now.store in
+    let store = c.args.self.now in
     let sent = c.in_ok-sent.sent in
     let expected = c.in_ok-sent.expected in
     let (asked, sent_is, expected_is) = c.in_ok-sent.ensures in

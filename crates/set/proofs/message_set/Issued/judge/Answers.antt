@@ -21,7 +21,7 @@ returns-clause-values c = values_tell
 
 pub returns-clause-answer : goal.returns-clause-answer
 returns-clause-answer c =
-    let store = c.args.self.now.store in
+    let store = c.args.self.now in
     let expected = c.in_ok-expected.expected in
     let (asked, is) = c.in_ok-expected.ensures in
     let f = c.five.result in

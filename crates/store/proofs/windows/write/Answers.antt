@@ -1,6 +1,6 @@
 use Rattle.std.proofs.Common.{rules, arith, length, ◌+◌, ◌-◌, ◌*◌}
 use Rattle.store.proofs.Writes.{window_put}
-use Rattle.store.proofs.windows.write_window.Goals as goal
+use Rattle.store.proofs.windows.write.Goals as goal
 
 pub returns : goal.returns
 returns c =
