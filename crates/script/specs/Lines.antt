@@ -47,6 +47,14 @@ AllParts = AllWrite part_read
 abbrev pub NotParts : List ℕ → LineError → Type 0
 NotParts = NotAllWrite part_read no_part
 
+-- all the words of bs write the symbols ss
+abbrev pub AllSymbols : List ℕ → List ℕ → Type 0
+AllSymbols = AllWrite number_read
+
+-- e tells which word of bs is the first that writes no symbol, or that memory ran out
+abbrev pub NotSymbols : List ℕ → LineError → Type 0
+NotSymbols = NotAllWrite number_read no_symbol
+
 -- bs begins with a question and a colon, and rest follows them
 abbrev pub Put : List ℕ → Question → List ℕ → Type 0
 Put bs q rest = (mid : List ℕ) × Asked bs q mid × First mid (codes ":") rest
@@ -73,29 +81,13 @@ NoNumber bs e = (w : Option (Bor (List ℕ))) × (e ≡ NotNumber w) × Comes bs
 abbrev pub NotEnded : List ℕ → LineError → Type 0
 NotEnded bs e = (w : Bor (List ℕ)) × (rest : List ℕ) × (e ≡ NotEnd w) × First bs w.now rest
 
--- all of bs is the number n
-abbrev pub OneNumber : List ℕ → ℕ → Type 0
-OneNumber bs n = (rest : List ℕ) × Numbered bs n rest × NoWord rest
+-- bs begins with the number n, and what follows it is as Right says
+abbrev pub NumberThen : List ℕ → ℕ → (List ℕ → Type 0) → Type 0
+NumberThen bs n Right = (rest : List ℕ) × Numbered bs n rest × Right rest
 
--- e tells what is wrong with bs as one number: the number, then the end
-abbrev pub NotOneNumber : List ℕ → LineError → Type 0
-NotOneNumber bs e = NoNumber bs e ⊎ ((n : ℕ) × (rest : List ℕ) × Numbered bs n rest × NotEnded rest e)
-
--- all of bs is the number m and then the number n
-abbrev pub TwoNumbers : List ℕ → ℕ → ℕ → Type 0
-TwoNumbers bs m n = (rest : List ℕ) × Numbered bs m rest × OneNumber rest n
-
--- e tells what is wrong with bs as two numbers: the first, then the second, then the end
-abbrev pub NotTwoNumbers : List ℕ → LineError → Type 0
-NotTwoNumbers bs e = NoNumber bs e ⊎ ((m : ℕ) × (rest : List ℕ) × Numbered bs m rest × NotOneNumber rest e)
-
--- all of bs is the number n and words read as xs
-abbrev pub NumberAndAll : {X : Type 0} → (List ℕ → Option X) → List ℕ → ℕ → List X → Type 0
-NumberAndAll read bs n xs = (rest : List ℕ) × Numbered bs n rest × AllWrite read rest xs
-
--- e tells what is wrong with bs as a number and words that are read: the number, then the words
-abbrev pub NotNumberAndAll : {X : Type 0} → (List ℕ → Option X) → (ℕ → Bor (List ℕ) → LineError) → List ℕ → LineError → Type 0
-NotNumberAndAll read unread bs e = NoNumber bs e ⊎ ((n : ℕ) × (rest : List ℕ) × Numbered bs n rest × NotAllWrite read unread rest e)
+-- e tells what comes in the place of a number, or by Wrong what is wrong with what follows the number
+abbrev pub NotNumberThen : (List ℕ → LineError → Type 0) → List ℕ → LineError → Type 0
+NotNumberThen Wrong bs e = NoNumber bs e ⊎ ((n : ℕ) × (rest : List ℕ) × Numbered bs n rest × Wrong rest e)
 
 -- no call has this name
 abbrev pub Uncalled : List ℕ → Type 0
@@ -109,25 +101,25 @@ Uncalled name =
     (name ≢ codes "compare") ×
     (name ≢ codes "judge")
 
--- the call that a name and the words of bs after it say
+-- the call that a name and the words of bs after it say, or what is wrong with them
 abbrev pub CallRead : List ℕ → List ℕ → Result Call LineError → Type 0
 CallRead name bs (Ok (Check parts)) = (name ≡ codes "check") × AllParts bs (vec_items parts)
 CallRead name bs (Ok (Ask q parts)) = (name ≡ codes "ask") × AllAsk bs q (vec_items parts)
-CallRead name bs (Ok (Declare number parts)) = (name ≡ codes "declare") × NumberAndAll part_read bs number (vec_items parts)
-CallRead name bs (Ok (Withdraw number)) = (name ≡ codes "withdraw") × OneNumber bs number
+CallRead name bs (Ok (Declare number parts)) = (name ≡ codes "declare") × NumberThen bs number (λ rest. AllParts rest (vec_items parts))
+CallRead name bs (Ok (Withdraw number)) = (name ≡ codes "withdraw") × NumberThen bs number NoWord
 CallRead name bs (Ok Issue) = (name ≡ codes "issue") × NoWord bs
 CallRead name bs (Ok Recall) = (name ≡ codes "recall") × NoWord bs
-CallRead name bs (Ok (Compare sent expected)) = (name ≡ codes "compare") × TwoNumbers bs sent expected
-CallRead name bs (Ok (Judge number message)) = (name ≡ codes "judge") × NumberAndAll number_read bs number (vec_items message)
+CallRead name bs (Ok (Compare sent expected)) = (name ≡ codes "compare") × NumberThen bs sent (λ rest. NumberThen rest expected NoWord)
+CallRead name bs (Ok (Judge number message)) = (name ≡ codes "judge") × NumberThen bs number (λ rest. AllSymbols rest (vec_items message))
 CallRead name bs (Err e) =
     (name ≡ codes "check") × NotParts bs e ⊎
     (name ≡ codes "ask") × NotAsk bs e ⊎
-    (name ≡ codes "declare") × NotNumberAndAll part_read no_part bs e ⊎
-    (name ≡ codes "withdraw") × NotOneNumber bs e ⊎
+    (name ≡ codes "declare") × NotNumberThen NotParts bs e ⊎
+    (name ≡ codes "withdraw") × NotNumberThen NotEnded bs e ⊎
     (name ≡ codes "issue") × NotEnded bs e ⊎
     (name ≡ codes "recall") × NotEnded bs e ⊎
-    (name ≡ codes "compare") × NotTwoNumbers bs e ⊎
-    (name ≡ codes "judge") × NotNumberAndAll number_read no_symbol bs e ⊎
+    (name ≡ codes "compare") × NotNumberThen (NotNumberThen NotEnded) bs e ⊎
+    (name ≡ codes "judge") × NotNumberThen NotSymbols bs e ⊎
     ((w : Bor (List ℕ)) × (e ≡ NoSuchCall w) × (name ≡ w.now) × Uncalled name)
 
 -- bs is no comment, and its first word and the words after it say r; 35 is '#'

@@ -1,6 +1,7 @@
 //! From a line of a script to the call that it makes, or to what is wrong with it.
 ghost use Rattle.std.specs.Prelude.{MatchResult};
-ghost use Rattle.script.specs.Lines.{AllAsk, NotAsk, OneNumber, NotOneNumber, TwoNumbers, NotTwoNumbers, NumberAndAll, NotNumberAndAll, CallRead, LineRead};
+ghost use Rattle.script.specs.Lines.{AllAsk, NotAsk, AllWrite, NotAllWrite, NotEnded, NumberThen, NotNumberThen, CallRead, LineRead};
+ghost use Rattle.script.specs.Words.{NoWord};
 
 use crate::error::LineError;
 use crate::question::Question;
@@ -11,8 +12,8 @@ use std::alloc::Global;
 
 /// A call of a script. A call more is a variant here, an arm in `named` with what reads
 /// its words, a name in the text of `NoSuchCall` and in the program's help, and an arm in
-/// `answer_call` of `answers`; and each of these has its line in a definition: `CallRead`,
-/// `complaint`, `CallAnswered`.
+/// `answer_call` of `answers`; and each of these has its line in a definition: `CallRead`
+/// and `Uncalled`, `complaint`, `CallAnswered`.
 #[derive(Drop)]
 pub enum Call {
     /// Check parts as a model.
@@ -24,25 +25,25 @@ pub enum Call {
         question: Question,
         parts: Vec<Part>,
     },
-    /// Declare the parts as the model of the number.
+    /// Put the model of the parts at the number.
     Declare {
         number: u32,
         parts: Vec<Part>,
     },
-    /// Take the model of the number away.
+    /// Take away the model at the number.
     Withdraw {
         number: u32,
     },
-    /// Give out the models declared.
+    /// Move the message set from drawn up to issued.
     Issue,
-    /// Take back what was given out.
+    /// Move the message set back to drawn up.
     Recall,
-    /// Ask whether every message of the sent model fits the expected one.
+    /// Ask whether every message of the sent model fits the expected one, each by its number.
     Compare {
         sent: u32,
         expected: u32,
     },
-    /// Ask whether a message fits the model of the number.
+    /// Ask whether a message fits the model at the number.
     Judge {
         number: u32,
         message: Vec<u32>,
@@ -119,16 +120,16 @@ fn question_and_parts(mut reader: Reader<'_>) -> Result<(Question, Vec<Part>), L
 
 /// The words after `declare` and `judge` are a number and what all the others write.
 fn number_and_rest<T: Written>(mut reader: Reader<'_>) -> Result<(u32, Vec<T>), LineError<'_>>
-    ensures { MatchResult result (λ r. NumberAndAll T.written reader.entry r.0 r.1.items) (NotNumberAndAll T.written T.unread reader.entry) }
+    ensures { MatchResult result (λ r. NumberThen reader.entry r.0 (λ rest. AllWrite T.written rest r.1.items)) (NotNumberThen (NotAllWrite T.written T.unread) reader.entry) }
 {
     let number = reader.next_number()?;
     let row = reader.rest()?;
     Ok((number, row))
 }
 
-/// The word after `withdraw` is a number.
+/// The words after `withdraw` are one number.
 fn one_number(mut reader: Reader<'_>) -> Result<u32, LineError<'_>>
-    ensures { MatchResult result (OneNumber reader.entry) (NotOneNumber reader.entry) }
+    ensures { MatchResult result (λ n. NumberThen reader.entry n NoWord) (NotNumberThen NotEnded reader.entry) }
 {
     let number = reader.next_number()?;
     reader.end()?;
@@ -137,7 +138,7 @@ fn one_number(mut reader: Reader<'_>) -> Result<u32, LineError<'_>>
 
 /// The words after `compare` are two numbers.
 fn two_numbers(mut reader: Reader<'_>) -> Result<(u32, u32), LineError<'_>>
-    ensures { MatchResult result (λ r. TwoNumbers reader.entry r.0 r.1) (NotTwoNumbers reader.entry) }
+    ensures { MatchResult result (λ r. NumberThen reader.entry r.0 (λ rest. NumberThen rest r.1 NoWord)) (NotNumberThen (NotNumberThen NotEnded) reader.entry) }
 {
     let first = reader.next_number()?;
     let second = one_number(reader)?;

@@ -1,5 +1,5 @@
-use Rattle.std.proofs.Common.{◌≡◌, ◌+◌, ◌∙◌, length, is_ok, vec_items, sym, ap, subst, inr, arith}
-use Rattle.script.proofs.Words.{Sofar, first_of, begins_more, counted, one_more}
+use Rattle.std.proofs.Common.{◌≡◌, ◌+◌, length, is_ok, vec_items, sym, ap, subst, inr, arith}
+use Rattle.script.proofs.Words.{first_of, begins_more, counted, one_more}
 use Rattle.std.proofs.ResultArms.{chosen}
 use Rattle.script.proofs.reader.Reader.rest.Goals as goal
 
@@ -14,7 +14,7 @@ returns-in_default g c =
       old.seen,
       vec_items c.loop-word.row,
       _,
-      c.wrong.ensures ∙ ap (λ n. g.T.Written.unread n word) count,
+      subst (λ n. c.wrong.result ≡ g.T.Written.unread n word) count c.wrong.ensures,
       begins_more _ old.seen _ _ _ old.begins first,
       old.written,
       sym c.in_default.ensures,
@@ -24,4 +24,4 @@ pub loop-word-preserved : goal.loop-word-preserved
 loop-word-preserved g c =
     let pushed = chosen _ _ _ _ c.push.ensures.items (ap is_ok c.in_ok-push.was) in
     let first = first_of _ c.in-Some.word.now _ c.in-Some.ensures.steps in
-    subst (Sofar g.T.Written.written _ _) (sym pushed) (one_more c.loop-word.invariant _ _ _ first (sym c.in-Some-read.ensures))
+    one_more c.loop-word.invariant _ _ _ (vec_items c.push.new.self) pushed first (sym c.in-Some-read.ensures)
