@@ -1,5 +1,5 @@
 -- One word more of a line. Assumes nothing.
-use Rattle.std.proofs.Common.{◌≡◌, ℕ, ◌<◌, List, [], ◌∷◌, ◌++◌, length, Some, Option, sym, refl, ap, ◌∙◌}
+use Rattle.std.proofs.Common.{◌≡◌, ℕ, ◌<◌, List, [], ◌∷◌, ◌++◌, map, length, Some, Option, sym, refl, ap, ◌∙◌}
 use lib.ListN.{length-map}
 use Rattle.std.specs.Char.{is_whitespace, is_not_whitespace}
 use Rattle.std.specs.Str.{NoCharPasses, EmptyOrStartsWithPassing}
@@ -25,9 +25,9 @@ module _ {X : Type 0} {read : List ℕ → Option X} {text rest : List ℕ} {xs 
   pub counted : length xs ≡ length old.seen
   counted = sym (length-map xs Some) ∙ sym (ap length old.written) ∙ length-map old.seen read
 
-  pub one_more : (w next : List ℕ) (x : X) → First rest w next → read w ≡ Some x → Sofar read text next (xs ++ (x ∷ []))
-  one_more w next x first is = record {
+  pub one_more : (w next : List ℕ) (x : X) (ys : List X) → ys ≡ xs ++ (x ∷ []) → First rest w next → read w ≡ Some x → Sofar read text next ys
+  one_more w next x ys pushed first is = record {
     seen = old.seen ++ (w ∷ []);
     begins = begins_more text old.seen w rest next old.begins first;
-    written = map_push read old.seen w ∙ (λ i. old.written i ++ (is i ∷ [])) ∙ sym (map_push Some xs x);
+    written = map_push read old.seen w ∙ (λ i. old.written i ++ (is i ∷ [])) ∙ sym (map_push Some xs x) ∙ sym (ap (map Some) pushed);
   }

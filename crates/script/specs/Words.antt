@@ -18,10 +18,14 @@ abbrev pub Begins : List ℕ → List (List ℕ) → List ℕ → Type 0
 Begins bs [] rest = bs ≡ rest
 Begins bs (w ∷ ws) rest = (mid : List ℕ) × First bs w mid × Begins mid ws rest
 
+-- bs has no word
+abbrev pub NoWord : List ℕ → Type 0
+NoWord bs = NoCharPasses is_not_whitespace bs
+
 -- w is the first word of bs, and rest follows it; or bs has no word
 abbrev pub Next : List ℕ → Option (Bor (List ℕ)) → List ℕ → Type 0
 Next bs (Some w) rest = First bs w.now rest
-Next bs None rest = NoCharPasses is_not_whitespace bs × (rest ≡ bs)
+Next bs None rest = NoWord bs × (rest ≡ bs)
 
 -- the first words of bs are ws, and w is next
 abbrev pub Comes : List ℕ → List (List ℕ) → Option (Bor (List ℕ)) → Type 0

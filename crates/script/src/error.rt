@@ -21,8 +21,10 @@ pub enum LineError<'a> {
     NotColon { word: Option<&'a str> },
     /// A word is not written as a part; `count` numbers the parts of its table from 1.
     NotPart { count: usize, word: &'a str },
-    /// The line ends without the word `in`.
-    NoIn,
+    /// A word is not written as the number of a model.
+    NotNumber { word: Option<&'a str> },
+    /// A word stands where the line has to end.
+    NotEnd { word: &'a str },
     /// Memory ran out while the line was read.
     Memory,
 }
@@ -41,7 +43,10 @@ impl fmt::Display for LineError<'_> {
     fn fmt<W: fmt::Write>(&self, f: &mut fmt::Formatter<W>) -> fmt::Result {
         match self {
             LineError::NoSuchCall { name } => {
-                write!(f, "no such call: {name} (calls: check, ask, try, fit)")
+                write!(
+                    f,
+                    "no such call: {name} (calls: check, ask, declare, withdraw, issue, recall, compare, judge)"
+                )
             }
             LineError::NoSuchQuestion { name } => {
                 let name = or_end(*name);
@@ -65,9 +70,12 @@ impl fmt::Display for LineError<'_> {
             LineError::NotPart { count, word } => {
                 write!(f, "part {count} is not kind:symbol:low:high: {word}")
             }
-            LineError::NoIn => {
-                let end = or_end(None);
-                write!(f, "expected in before the expected parts, and not: {end}")
+            LineError::NotNumber { word } => {
+                let word = or_end(*word);
+                write!(f, "expected a number of a model, and not: {word}")
+            }
+            LineError::NotEnd { word } => {
+                write!(f, "expected the end of the line, and not: {word}")
             }
             LineError::Memory => write!(f, "out of memory"),
         }

@@ -1,14 +1,13 @@
 //! Reads a line from its front to its end, word by word.
 ghost use Rattle.std.specs.Prelude.{◌≡◌, ℕ, List, MatchResult};
 ghost use Rattle.std.specs.Str.Iter.{split_whitespace_rest};
-ghost use Rattle.script.specs.Lines.{AllParts, BeforeIn, NotBeforeIn, NotParts};
+ghost use Rattle.script.specs.Lines.{AllWrite, NotAllWrite, Numbered, NoNumber, NotEnded};
 ghost use Rattle.script.specs.Reader.{ReadNext};
-ghost use Rattle.script.specs.Words.{Next};
+ghost use Rattle.script.specs.Words.{Next, NoWord};
 
 use crate::error::LineError;
 use crate::read;
 use crate::written::Written;
-use parts::part::Part;
 use std::alloc::Global;
 use std::marker::Model;
 use std::str::SplitWhitespace;
@@ -57,37 +56,34 @@ impl<'a> Reader<'a> {
         word.and_then(read).ok_or(wrong(word))
     }
 
-    /// What the words up to `in` write.
-    pub(crate) fn before_in<T: Written>(&mut self) -> Result<Vec<T>, LineError<'a>>
-        ensures { MatchResult result (λ row. BeforeIn T.written self.old row.items self.new) (NotBeforeIn T.written T.unread self.old) }
+    /// The number that the next word writes.
+    pub(crate) fn next_number(&mut self) -> Result<u32, LineError<'a>>
+        ensures { MatchResult result (λ n. Numbered self.old n self.new) (NoNumber self.old) }
+    {
+        self.read_next(read::number, |word| LineError::NotNumber { word })
+    }
+
+    /// What all the words left write.
+    pub(crate) fn rest<T: Written>(self) -> Result<Vec<T>, LineError<'a>>
+        ensures { MatchResult result (λ row. AllWrite T.written self.entry row.items) (NotAllWrite T.written T.unread self.entry) }
     {
         let mut row = Vec::new(self.heap);
-        while let Some(word) = self.next_word() {
-            if word == "in" {
-                return Ok(row);
-            }
+        for word in self.words {
             let Some(value) = T::read(word) else {
                 return Err(T::wrong(row.len() + 1, word));
             };
             row.push(value)?;
         }
-        Err(LineError::NoIn)
+        Ok(row)
     }
 
-    /// The parts that all the words left write.
-    pub(crate) fn parts(self) -> Result<Vec<Part>, LineError<'a>>
-        ensures { MatchResult result (λ parts. AllParts self.entry parts.items) (NotParts self.entry) }
+    /// No words are left.
+    pub(crate) fn end(mut self) -> Result<(), LineError<'a>>
+        ensures { MatchResult result (λ _. NoWord self.entry) (NotEnded self.entry) }
     {
-        let mut parts = Vec::new(self.heap);
-        for word in self.words {
-            let Some(part) = read::part(word) else {
-                return Err(LineError::NotPart {
-                    count: parts.len() + 1,
-                    word,
-                });
-            };
-            parts.push(part)?;
+        match self.next_word() {
+            None => Ok(()),
+            Some(word) => Err(LineError::NotEnd { word }),
         }
-        Ok(parts)
     }
 }

@@ -1,8 +1,0 @@
-use Rattle.std.proofs.Common.{vec_items}
-use Rattle.std.specs.Str.Iter.{split_whitespace_rest}
-use Rattle.script.specs.Reads.{part_read}
-use Rattle.script.proofs.Words.{Sofar}
-use Rattle.script.proofs.reader.Reader.parts.Given as goal
-
-abbrev pub invariant-loop-word : goal.invariant-loop-word
-invariant-loop-word l = Sofar part_read l.fn.self (split_whitespace_rest l.word-iterator) (vec_items l.parts)
