@@ -3,9 +3,8 @@ use Rattle.std.specs.Prelude.{ℕ, Bool, cond, List, ◌++◌, Some, None, codes
 use Rattle.parts.specs.Sets.{listed}
 use Rattle.answers.specs.declared.facts.Facts.{Facts}
 use Rattle.answers.specs.declared.reply.Reply.{Reply}
-use Rattle.answers.specs.declared.reply.Reply.TheVariants.{Model, Every, Occurs, Brings, After, Included, Fits, Breaks, Conflict}
+use Rattle.answers.specs.declared.reply.Reply.TheVariants.{Model, Every, Occurs, Brings, After}
 use Rattle.occurrences.specs.declared.figure.Figure.{Figure}
-use Rattle.rules.specs.Texts.{verdict_said}
 use Rattle.occurrences.specs.Texts.{figure_said, most_said}
 
 abbrev pub yes_or_no_of : Bool → List ℕ
@@ -35,7 +34,3 @@ reply_said (Every every nonempty) = codes "every " ++ (yes_or_no_of every ++ (co
 reply_said (Occurs fewest most) = codes "fewest " ++ (fewest_said fewest ++ (codes ", most " ++ most_said most))
 reply_said (Brings brings) = yes_or_no_of brings
 reply_said (After after) = yes_or_no_of after
-reply_said Included = codes "included"
-reply_said Fits = codes "fits"
-reply_said (Breaks verdict) = verdict_said verdict
-reply_said (Conflict conflict) = codes "conflict at " ++ decimal conflict.place

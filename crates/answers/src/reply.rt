@@ -1,7 +1,7 @@
-//! What a model replies to a call, and how a reply is printed.
+//! What a model replies to a question, and how a reply is printed.
 ghost use Rattle.models.specs.Checked.{tree_of};
-ghost use Rattle.std.specs.Prelude.{◌≡◌, Some};
-ghost use Rattle.answers.specs.Answers.{Replied, reply_of};
+ghost use Rattle.std.specs.Prelude.{Some};
+ghost use Rattle.answers.specs.Answers.{Replied};
 ghost use Rattle.answers.specs.Texts.{fewest_said, reply_said};
 
 use crate::facts::Facts;
@@ -9,9 +9,7 @@ use crate::text::yes_or_no;
 use models::model::Model;
 use occurrences::figure::{Figure, Most};
 use occurrences::occurs::occurrences_of;
-use rules::verdict::Verdict;
 use script::question::Question;
-use set::conflict::Conflict;
 use std::fmt;
 use summaries::after::order_of;
 use summaries::brings::brings_of;
@@ -30,14 +28,6 @@ pub enum Reply {
     Brings(bool),
     /// Whether some message has the first symbol after the second.
     After(bool),
-    /// Every message of the sent model fits.
-    Included,
-    /// The message fits.
-    Fits,
-    /// The first rule of the expected model that is broken.
-    Breaks(Verdict),
-    /// The expected model is not conflict-free.
-    Conflict(Conflict),
 }
 
 impl Reply {
@@ -64,17 +54,6 @@ impl Reply {
             Question::After { first, second } => Reply::After(order_of(model, first, second).after),
         }
     }
-
-    /// What comes of asking an expected model: `none` where no rule is broken.
-    pub fn tried(answer: Result<Option<Verdict>, Conflict>, none: Reply) -> Reply
-        ensures { result ≡ reply_of answer none }
-    {
-        match answer {
-            Ok(None) => none,
-            Ok(Some(verdict)) => Reply::Breaks(verdict),
-            Err(conflict) => Reply::Conflict(conflict),
-        }
-    }
 }
 
 impl fmt::Display for Reply {
@@ -93,13 +72,6 @@ impl fmt::Display for Reply {
                 write!(f, "fewest {fewest}, most {most}")
             }
             Reply::Brings(answer) | Reply::After(answer) => f.write_str(yes_or_no(*answer)),
-            Reply::Included => f.write_str("included"),
-            Reply::Fits => f.write_str("fits"),
-            Reply::Breaks(verdict) => write!(f, "{verdict}"),
-            Reply::Conflict(conflict) => {
-                let place = conflict.place;
-                write!(f, "conflict at {place}")
-            }
         }
     }
 }

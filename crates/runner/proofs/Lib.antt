@@ -1,1 +1,2 @@
 pub mod Sofar
+pub mod Turning

@@ -1,20 +1,22 @@
--- What is written of a line and of a script so far, and one piece more. Assumes nothing.
-use Rattle.std.proofs.Common.{◌≡◌, ℕ, ◌+◌, ◌<◌, List, [], ◌∷◌, ◌++◌, codes, length, get_or, take, drop, None, Some, Ok, Err, Option, Result, inl, inr, sym, refl, ap, ◌∙◌, subst, append_assoc, append-nil, add-one, drop-cons, arith}
+-- What is read and written of a script so far, and one piece more. Assumes nothing.
+use Rattle.std.proofs.Common.{◌≡◌, ℕ, ◌+◌, ◌<◌, List, [], ◌∷◌, ◌++◌, codes, map, length, get_or, take, drop, None, Some, Ok, Err, Option, Result, inl, inr, sym, refl, ap, ◌∙◌, subst, append_assoc, append-nil, add-one, drop-cons, string_bytes, arith}
 use Rattle.std.specs.Io.KnownBytes.{Appends}
+use Rattle.std.specs.List.{enumerate_from}
+use Rattle.std.proofs.lemmas.List.{take_more, take-append-drop, length-take-le}
+use Rattle.std.proofs.lemmas.List.FromFn.{length-enumerate_from, get_or-enumerate_from}
 use Rattle.parts.proofs.Joining.{gap_after, gap_more, joined_more}
+use Rattle.set.specs.Histories.{History}
 use Rattle.script.specs.Words.{First, Begins}
 use Rattle.script.proofs.Words.{begins_more}
 use Rattle.script.specs.Lines.{LineRead}
 use Rattle.script.specs.declared.call.Call.{Call}
-use Rattle.parts.specs.declared.refusal.Refusal.{Refusal}
-use Rattle.answers.specs.Answers.{CallAnswered}
-use Rattle.answers.specs.declared.reply.Reply.{Reply}
-use Rattle.runner.specs.Scripts.{WordsAre, spaced, answer_said, Said, Written, LineWritten, ScriptWritten}
+use Rattle.runner.specs.Entries.{EntriesAre, Entered, LineEntered, ScriptEntered, BadAt}
+use Rattle.runner.specs.Failures.{IsIo}
+use Rattle.runner.specs.Scripts.{spaced, CallSaid, LineSaid, Said, Written, ScriptWritten}
+use Rattle.runner.specs.Turns.{EntriesSaid, EntriesWritten}
+use Rattle.runner.specs.declared.entry.Entry.{Entry}
 use Rattle.runner.specs.declared.failure.Failure.{Failure}
 use Rattle.runner.specs.declared.failure.Failure.TheVariants.{TooManyArguments, BadFile, BadInput, BadLine, Io}
-use Rattle.std.proofs.lemmas.List.{take_more, take-append-drop, length-take-le}
-use Rattle.std.proofs.lemmas.List.FromFn.{length-enumerate_from, get_or-enumerate_from}
-use Rattle.std.specs.List.{enumerate_from}
 
 pub appends_none : (a : Option (List ℕ)) → Appends a a []
 appends_none None = tt
@@ -42,34 +44,32 @@ module _ {line rest : List ℕ} {old new : Option (List ℕ)} {gap : List ℕ} (
     written = subst (Appends old last) (ap (λ between. spaced s.seen ++ (between ++ w)) s.between ∙ joined_more (λ x. x) (codes " ") s.seen w) (appends_both old new last _ _ s.written next);
   }
 
--- a line that makes no call
-pub line_none : (line : List ℕ) (old : Option (List ℕ)) → LineRead line (Ok None) → Written (line ∷ []) old old
-line_none line old h = ([], ([], [], refl, inl (h, refl), refl), appends_none old)
+-- a line that makes no call, and one that makes one
+pub line_none : (line : List ℕ) (old : List Entry) → LineRead line (Ok None) → Entered (line ∷ []) old old
+line_none line old h = ([], inl (h, refl), sym (append-nil old))
 
--- a line that makes a call, whose words and answer are written
-pub line_said : (line : List ℕ) (call : Call) (answer : Result Reply Refusal) (old mid new : Option (List ℕ))
-    → LineRead line (Ok (Some call)) → CallAnswered call answer
-    → (ws : List (List ℕ)) × WordsAre line ws × Appends old mid (spaced ws)
-    → Appends mid new (codes ": " ++ (answer_said answer ++ (10 ∷ []))) → Written (line ∷ []) old new
-line_said line call answer old mid new h a (ws, are, front) back =
-    let said = spaced ws ++ (codes ": " ++ (answer_said answer ++ (10 ∷ []))) in
-    (said, (said, [], sym (append-nil said), inr (call, h, (ws, answer, are, a, refl)), refl), appends_both old mid new _ _ front back)
+pub line_entry : (line : List ℕ) (old : List Entry) (e : Entry) → e.line.now ≡ line → LineRead line (Ok (Some e.call)) → Entered (line ∷ []) old (old ++ (e ∷ []))
+line_entry line old e is h = (e ∷ [], inr (e, [], refl, is, h, refl), refl)
 
-said_both : (xs ys : List (List ℕ)) (a b : List ℕ) → Said xs a → Said ys b → Said (xs ++ ys) (a ++ b)
-said_both [] ys a b h k = rw h k
-said_both (x ∷ xs) ys a b (first, others, cut, one, h) k =
-    (first, others ++ b, ap (λ l. l ++ b) cut ∙ append_assoc first others b, one, said_both xs ys others b h k)
+entries_both : (xs ys : List (List ℕ)) (es fs : List Entry) → EntriesAre xs es → EntriesAre ys fs → EntriesAre (xs ++ ys) (es ++ fs)
+entries_both [] ys es fs h k = rw h k
+entries_both (x ∷ xs) ys es fs (inl (none, h)) k = inl (none, entries_both xs ys es fs h k)
+entries_both (x ∷ xs) ys es fs (inr (e, rest, cut, is, read, h)) k =
+    inr (e, rest ++ fs, ap (λ l. l ++ fs) cut, is, read, entries_both xs ys rest fs h k)
 
--- lines answered after lines
-pub answered_both : (xs ys : List (List ℕ)) (old mid new : Option (List ℕ)) → Written xs old mid → Written ys mid new → Written (xs ++ ys) old new
-answered_both xs ys old mid new (a, h, f) (b, k, g) = (a ++ b, said_both xs ys a b h k, appends_both old mid new a b f g)
+-- lines entered after lines
+entered_both : (xs ys : List (List ℕ)) (old mid new : List Entry) → Entered xs old mid → Entered ys mid new → Entered (xs ++ ys) old new
+entered_both xs ys old mid new (es, h, f) (fs, k, g) = (es ++ fs, entries_both xs ys es fs h k, g ∙ ap (λ l. l ++ fs) f ∙ append_assoc old es fs)
+
+pub entered_none : (old : List Entry) → Entered [] old old
+entered_none old = ([], refl, sym (append-nil old))
 
 -- one line more
-pub answered_more : (lines : List (List ℕ)) (n : ℕ) (line : List ℕ) (old mid new : Option (List ℕ))
+pub entered_more : (lines : List (List ℕ)) (n : ℕ) (line : List ℕ) (old mid new : List Entry)
     → n < length lines → line ≡ get_or lines n line
-    → Written (take n lines) old mid → Written (line ∷ []) mid new → Written (take (n + 1) lines) old new
-answered_more lines n line old mid new within is h k =
-    subst (λ ls. Written ls old new) (ap (λ l. take n lines ++ (l ∷ [])) is ∙ sym (take_more lines n line within)) (answered_both (take n lines) (line ∷ []) old mid new h k)
+    → Entered (take n lines) old mid → Entered (line ∷ []) mid new → Entered (take (n + 1) lines) old new
+entered_more lines n line old mid new within is h k =
+    subst (λ ls. Entered ls old new) (ap (λ l. take n lines ++ (l ∷ [])) is ∙ sym (take_more lines n line within)) (entered_both (take n lines) (line ∷ []) old mid new h k)
 
 drop_one : (lines : List (List ℕ)) (n : ℕ) (line : List ℕ) → n < length lines → drop n lines ≡ get_or lines n line ∷ drop (n + 1) lines
 drop_one lines n line within = rw add-one (drop-cons lines n line within)
@@ -82,15 +82,45 @@ numbered lines i n line (within, is) =
     let both = is ∙ get_or-enumerate_from 0 lines i (n, line) few in
     (few, (let e = ap (λ p. p.0) both in omega arith), ap (λ p. p.1) both)
 
--- the line after those that are answered ends the run
-pub script_ended : (lines : List (List ℕ)) (n place : ℕ) (line : List ℕ) (old mid new : Option (List ℕ)) (failure : Failure)
+-- the line after those that are entered ends the script
+pub script_ended : (lines : List (List ℕ)) (n place : ℕ) (line : List ℕ) (old mid new : List Entry) (failure : Failure)
     → n < length lines → place ≡ n → line ≡ get_or lines n line
-    → Written (take n lines) old mid → LineWritten (place + 1) line mid new (Err failure) → ScriptWritten lines old new (Err failure)
+    → Entered (take n lines) old mid → LineEntered (place + 1) line mid new (Err failure) → ScriptEntered lines old new (Err failure)
 script_ended lines n place line old mid new TooManyArguments within at is h k = absurd k
 script_ended lines n place line old mid new (BadFile path error) within at is h k = absurd k
 script_ended lines n place line old mid new (BadInput error) within at is h k = absurd k
-script_ended lines n place line old mid new (BadLine number reason) within at is (said, h, f) (count, bad, kept) =
+script_ended lines n place line old mid new (BadLine number reason) within at is h (count, bad, kept) =
     let cut = sym (take-append-drop n lines) ∙ ap (λ l. take n lines ++ l) (drop_one lines n line within ∙ ap (λ l. l ∷ drop (n + 1) lines) (sym is)) in
     let long : length (take n lines) ≡ n = omega (arith, length-take-le n lines (omega arith)) in
-    (take n lines, line, drop (n + 1) lines, cut, omega arith, bad, (said, h, subst (Appends old new) (append-nil said) (appends_both old mid new said [] f kept)))
+    (take n lines, (line, drop (n + 1) lines, cut, omega arith, bad), subst (Entered (take n lines) old) (sym kept) h)
 script_ended lines n place line old mid new (Io error) within at is h k = tt
+
+-- what goes to entries is what goes to the lines that make them
+entries_lines : (lines : List (List ℕ)) (es : List Entry) (h h′ : History) (said : List ℕ) → EntriesAre lines es → EntriesSaid h es said h′ → Said h lines said h′
+entries_lines [] es h h′ said are given = rw are at given
+entries_lines (line ∷ lines) es h h′ said (inl (none, are)) given = ([], said, h, refl, inl (none, refl, refl), entries_lines lines es h h′ said are given)
+entries_lines (line ∷ lines) es h h′ said (inr (e, rest, cut, is, read, are)) given =
+    let (first, others, mid, joined, one, more) = subst (λ l. EntriesSaid h l said h′) cut given in
+    (first, others, mid, joined, inr (e.call, read, subst (λ l. CallSaid h l e.call first mid) is one), entries_lines lines rest mid h′ others are more)
+
+pub lines_written : (lines : List (List ℕ)) (es : List Entry) (old new : Option (List ℕ)) → Entered lines [] es → EntriesWritten es old new → Written lines old new
+lines_written lines es old new (fs, are, is) (said, h, given, out) =
+    (said, h, entries_lines lines fs [] h said are (subst (λ l. EntriesSaid [] l said h) is given), out)
+
+-- and so it is of a script that was read, up to a bad line or to the end
+pub script_written : (lines : List (List ℕ)) (es : List Entry) (outcome : Result (Unit {0}) Failure) (old new : Option (List ℕ))
+    → ScriptEntered lines [] es outcome → EntriesWritten es old new → ScriptWritten lines old new outcome
+script_written lines es (Ok u) old new entered given = lines_written lines es old new entered given
+script_written lines es (Err TooManyArguments) old new entered given = absurd entered
+script_written lines es (Err (BadFile path error)) old new entered given = absurd entered
+script_written lines es (Err (BadInput error)) old new entered given = absurd entered
+script_written lines es (Err (BadLine number reason)) old new (before, bad, entered) given = (before, bad, lines_written before es old new entered given)
+script_written lines es (Err (Io error)) old new entered given = tt
+
+-- a failure that is of the system ends the script with nothing said
+pub script_failed : (lines : List (List ℕ)) (old new : Option (List ℕ)) (failure : Failure) → IsIo failure → ScriptWritten lines old new (Err failure)
+script_failed lines old new TooManyArguments is = absurd is
+script_failed lines old new (BadFile path error) is = absurd is
+script_failed lines old new (BadInput error) is = absurd is
+script_failed lines old new (BadLine number reason) is = absurd is
+script_failed lines old new (Io error) is = tt

@@ -1,2 +1,4 @@
 pub mod Failures
+pub mod Entries
 pub mod Scripts
+pub mod Turns

@@ -1,44 +1,49 @@
 //! What is written for a script: an answer to each of its calls, line after line.
+ghost use Rattle.std.specs.Prelude.{MatchResult};
 ghost use Rattle.std.specs.Str.Lines.{lines};
-ghost use Rattle.runner.specs.Scripts.{LineWritten, ScriptWritten};
+ghost use Rattle.runner.specs.Failures.{IsIo};
+ghost use Rattle.runner.specs.Scripts.{ScriptWritten};
+ghost use Rattle.runner.specs.Turns.{EntriesWritten};
 
+use crate::asking::set_calls;
+use crate::entry::{Entry, read_entries};
 use crate::failure::Failure;
-use crate::writing::{write_answer, write_words};
-use answers::answer::answer_call;
-use script::call::Call;
+use crate::writing::write_entries;
+use parts::part::Part;
+use seasons::answer::Answer;
+use seasons::season::season;
 use std::alloc::Global;
 use std::io;
+use store::windows::SHEET_PARTS;
 
-/// Answers the calls of a script in turn, each on a line of its own; a line that is no call
-/// ends the run. The memory is handed in beside what it serves, as in the standard library.
+/// Runs the calls of a script as one season, and answers them in turn, each on a line of its
+/// own; a line that is no call ends the script. The memory is handed in beside what it serves,
+/// as in the standard library.
 pub fn answer_script<W: io::Write>(heap: Global, text: &str, out: &mut W) -> Result<(), Failure>
     ensures { ScriptWritten (lines text.now) (W.contents out.old) (W.contents out.new) result }
 {
-    for (place, line) in text.lines().enumerate() {
-        answer_line(heap, place + 1, line, out)?;
-    }
-    Ok(())
+    let mut entries = Vec::new(heap);
+    let outcome = read_entries(heap, text, &mut entries);
+    answer_entries(heap, entries.as_slice(), out)?;
+    outcome
 }
 
-// Answers the call of one line, if it makes one.
-fn answer_line<W: io::Write>(
+// Runs the calls that the entries make on one set, and writes all answers.
+fn answer_entries<W: io::Write>(
     heap: Global,
-    number: usize,
-    line: &str,
+    entries: &[Entry<'_>],
     out: &mut W,
 ) -> Result<(), Failure>
-    ensures { LineWritten number line.now (W.contents out.old) (W.contents out.new) result }
+    ensures { MatchResult result (λ _. EntriesWritten entries.now (W.contents out.old) (W.contents out.new)) IsIo }
 {
-    match Call::read(heap, line) {
-        Ok(None) => Ok(()),
-        Ok(Some(call)) => {
-            write_words(out, line)?;
-            write_answer(out, &answer_call(&call))?;
-            Ok(())
-        }
-        Err(error) => {
-            let reason = format!(in heap; "{error}")?;
-            Err(Failure::BadLine { number, reason })
-        }
-    }
+    let calls = set_calls(heap, entries)?;
+    let mut answers = vec![in heap; Answer::Granted; calls.len()]?;
+    let mut sheet = vec![in heap; Part::BLANK; SHEET_PARTS]?;
+    let _all = season(
+        sheet.as_mut_slice(),
+        calls.as_slice(),
+        answers.as_mut_slice(),
+    );
+    write_entries(entries, answers.as_slice(), out)?;
+    Ok(())
 }

@@ -1,7 +1,7 @@
 //! Why a run ended early, and what is said of it.
 ghost use Rattle.runner.specs.Failures.{failure_said, IsIo};
 
-use std::alloc::AllocError;
+use std::alloc::{AllocError, AllocFailed};
 use std::{fmt, io};
 
 /// Why a run ended early. The reason of a bad line is text, since it outlives the script.
@@ -27,6 +27,14 @@ impl From<AllocError> for Failure {
 
     fn from(error: AllocError) -> Failure {
         Failure::from(io::Error::from(error))
+    }
+}
+
+impl<T: Drop> From<AllocFailed<T>> for Failure {
+    ghost from_gives = { λ _ failure. IsIo failure };
+
+    fn from(failed: AllocFailed<T>) -> Failure {
+        Failure::from(AllocError::from(failed))
     }
 }
 
