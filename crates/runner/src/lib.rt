@@ -17,14 +17,16 @@ mod tests {
     use crate::failure::Failure;
     use std::test::Fail;
 
+    // the host's second entry of units comes after the dividend, which the order rule forbids
     #[test]
-    fn a_whole_script(rt: HostRuntime) -> Result<(), Fail> {
+    fn a_dead_heat(rt: HostRuntime) -> Result<(), Fail> {
         let mut out = Vec::new(rt.alloc());
-        let text = "# a comment\n check  1:0:0:0\n\nask after 0 1 : 1:0:0:0\n";
+        let text =
+            "# units[1..2] and the dividend\ndeclare 1 1:0:0:0 5:0:1:2 1:1:0:0 3:0:0:0\n\nissue\n judge  1 0 1 0\nissue\n";
         let outcome = answer_script(rt.alloc(), text, &mut out);
         outcome.ok().ok_or("ended early")?;
         let answers =
-            "check 1:0:0:0: 1 parts, symbols {0}, empty no, conflict-free\nask after 0 1 : 1:0:0:0: no\n";
+            "declare 1 1:0:0:0 5:0:1:2 1:1:0:0 3:0:0:0: granted\nissue: granted\njudge 1 0 1 0: family 5, {0}, {1}\nissue: not taken, the set is issued\n";
         assert_eq!(rt; out.as_slice(), answers.as_bytes());
         Ok(())
     }
@@ -38,7 +40,7 @@ mod tests {
                 assert_eq!(rt; number, 2);
                 assert_eq!(rt;
                     reason.as_str(),
-                    "no such call: chek (calls: check, ask, try, fit)"
+                    "no such call: chek (calls: check, ask, declare, withdraw, issue, recall, compare, judge)"
                 );
             }
             _ => return Err("no bad line".into()),

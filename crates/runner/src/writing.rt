@@ -53,10 +53,7 @@ fn write_words<W: io::Write>(out: &mut W, line: &str) -> io::Result<()>
 
 // Writes what follows the words: a colon, what is said of a table and the end of the line. By
 // hand, since a `Result` has no text of its own.
-fn write_answer<W: io::Write>(
-    out: &mut W,
-    answer: &Result<Reply, Refusal>,
-) -> io::Result<()>
+fn write_answer<W: io::Write>(out: &mut W, answer: &Result<Reply, Refusal>) -> io::Result<()>
     ensures { OnOk result (Appends (W.contents out.old) (W.contents out.new) (codes ": " ++ (answer_said answer.now ++ (10 ∷ [])))) }
 {
     match answer {

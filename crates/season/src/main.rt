@@ -1,4 +1,4 @@
-//! Answers the calls of a script, one to a line: `check`, `ask`, `try` and `fit`.
+//! Runs a whole season of one message set from a script, and answers questions about tables.
 
 #![tactic(auto)]
 
@@ -13,21 +13,29 @@ const USAGE: &str = "\
 usage: season [FILE]
        season --help
 
-Reads a script from FILE, or from standard input where there is none, and
-prints an answer for each call. A script has one call to a line; empty lines
-and lines that begin with # are passed over.
+Reads a script from FILE, or from standard input where there is none, runs its
+calls on one message set, blank at first, and prints each call with its answer.
+A script has one call to a line; empty lines and lines that begin with # are
+passed over.
 
-calls:
-  check PART..            say whether the parts are a model, and its symbols,
-                          whether the empty message fits, and its first
-                          conflict, or where the parts fail and why; a part
-                          is written kind:symbol:low:high in decimal
-  ask QUESTION : PART..   answer a question about all messages of the model
-  try PART.. in PART..    say whether every message of the first model, which is
-                          sent, fits the second, which is expected; if not,
-                          which rule of the second is the first that one breaks
-  fit SYMBOL.. in PART..  say whether the message of the symbols fits the model;
-                          if not, which rule is the first that it breaks
+calls of a set that is drawn up, as it is at first:
+  declare NUMBER PART..   put a model at a number from 1 to 32; a part is
+                          written kind:symbol:low:high in decimal
+  withdraw NUMBER         take the model at the number away
+  issue                   from now on the set is issued
+
+calls of an issued set:
+  compare NUMBER NUMBER   does every message of the first model, which is sent,
+                          fit the second, which is expected; if not, which rule
+                          of the second is the first that one breaks
+  judge NUMBER SYMBOL..   does the message of the symbols fit the model; if not,
+                          which rule is the first that it breaks
+  recall                  from now on the set is drawn up
+
+calls about a table, at any time:
+  check PART..            is it a model; its symbols, whether the empty message
+                          fits, its first conflict
+  ask QUESTION : PART..   a question about all messages of the model
 
 questions:
   every SET               has every message a symbol of the set, and has every
@@ -38,19 +46,21 @@ questions:
                           of the second
   after SYMBOL SYMBOL     has some message the first symbol after the second
 
-answers of try and fit:
+answers of the set:
+  granted                 of declare, withdraw, issue, recall
   included, or fits       no rule is broken
   family 3, {0}, 1 to 5   a verdict: the family of the rule, its set or sets, and
                           of family 3 the bounds, * being no upper end
-  conflict at 3           the expected model is not conflict-free
+  refused 11, set, place 3     the question that got a no, its layer, its place
+  not taken, the set is issued the call belongs to the other state
 
-examples:
-  check 1:0:0:0 1:1:0:0 3:0:0:0
-  ask after 0 1 : 1:0:0:0 1:1:0:0 3:0:0:0
-  try 1:0:0:0 1:1:0:0 3:0:0:0 in 1:0:0:0 1:1:0:0 4:0:0:0
-  fit 1 0 in 1:0:0:0 1:1:0:0 3:0:0:0
+example:
+  declare 1 1:0:0:0 5:0:1:2 1:1:0:0 3:0:0:0
+  issue
+  judge 1 0 1
 
-A line that is no call ends the run with a message and status 1.
+A line that is no call ends the script: what stands before it is answered, and
+then there is a message and status 1.
 ";
 
 fn main(rt: HostRuntime) -> ExitCode {

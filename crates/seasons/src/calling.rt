@@ -33,12 +33,7 @@ pub(crate) fn drawn_up_call<F: RuleFamily>(
 }
 
 // The answer to a compare, with one family hung behind or none.
-fn compared<F: RuleFamily>(
-    set: &Issued<'_>,
-    sent: u32,
-    expected: u32,
-    behind: Option<&F>,
-) -> Answer
+fn compared<F: RuleFamily>(set: &Issued<'_>, sent: u32, expected: u32, behind: Option<&F>) -> Answer
     ensures { Steps (hung F.rules behind.entry) (compare sent expected) (told result) issued set.now.sheet.now set.now.slots.at issued set.now.sheet.now set.now.slots.at }
 {
     let verdict = match behind {

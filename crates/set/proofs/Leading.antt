@@ -76,10 +76,10 @@ module _ (first : List Part) (h : History) (s : State) (sheet : List Part) (slot
             windows = λ wide k small. ⊎_elim (λ same.
                 let here : stands (e ∷ h) (suc k) ≡ o = now (suc k) ∙ rw (eq-eqb (suc k) m (omega (arith, same, after))) refl in
                 ap (λ (j : ℕ). window j (written sheet (m - 1) ps)) same ∙ own_window sheet ps (m - 1) long within few ∙ sym held ∙ ap shown (sym here))
-            (λ ne.
+                (λ ne.
                 let other : stands (e ∷ h) (suc k) ≡ stands h (suc k) = now (suc k) ∙ rw (ne_eqb (suc k) m (λ z. ne (omega (arith, z, after)))) refl in
                 other_window sheet ps (m - 1) k long within few ne ∙ led.shows.windows wide k small ∙ ap shown (sym other))
-            (cases_eq k (m - 1));
+                (cases_eq k (m - 1));
             unaltered = λ other. absurd (other (sym led.shows.size ∙ long));
           };
         }
@@ -133,7 +133,7 @@ module _ (sheet sheet′ : List Part) (slots slots′ : List Slot) (full : lengt
       let (long, from, to) = numbered_means (length sheet) m number in
       let within : m - 1 < 32 = omega (arith, from, to) in
       rw (now, slots_now)
-          (leads_written first h DrawnUp sheet slots led _ m ps (Declared (length ps)) few number full sound (Some ps) led.state_is (λ i. refl) (own_model sheet ps (m - 1) long within few) refl)
+      (leads_written first h DrawnUp sheet slots led _ m ps (Declared (length ps)) few number full sound (Some ps) led.state_is (λ i. refl) (own_model sheet ps (m - 1) long within few) refl)
   declared_leads ps (Err e) answer (now, slots_now) first h led = rw (now, slots_now) (leads_same first h DrawnUp sheet slots led _ DrawnUp led.state_is (λ i. refl))
 
   withdrawn_leads : (r : Result (Unit {0}) Refusal) → WithdrawEnds (length sheet) (model_at sheet slots m) m (granted_told r)
@@ -145,7 +145,7 @@ module _ (sheet sheet′ : List Part) (slots slots′ : List Slot) (full : lengt
       let (is_number, rest) = first_no_parts (number_question (length sheet) m) declared (ended_granted (first_no (number_question (length sheet) m ∷ declared)) answer) in
       let number = yes_told (numbered (length sheet) m) _ is_number in
       rw (now, slots_now)
-          (leads_written first h DrawnUp sheet slots led _ m [] Free (omega arith) number full sound None led.state_is (λ i. refl) refl refl)
+      (leads_written first h DrawnUp sheet slots led _ m [] Free (omega arith) number full sound None led.state_is (λ i. refl) refl refl)
   withdrawn_leads (Err e) answer (now, slots_now) first h led = rw (now, slots_now) (leads_same first h DrawnUp sheet slots led _ DrawnUp led.state_is (λ i. refl))
 
   pub declare_steps : (ps : List Part) (r : Result (Unit {0}) Refusal) → DeclareEnds (length sheet) (model_at sheet slots m) m ps (granted_told r)

@@ -99,7 +99,7 @@ compare_ends behind n sent_was was s e sent expected v asked sent_is is first =
     let t = tree_of sent in
     let u = tree_of expected.model in
     subst (λ q. Ends q (λ told. (t : Tree) × (u : Tree) × ModelIs sent_was t × ModelIs was u × ComparedTo t u behind told) (named included v)) (sym asked)
-        (t, u, model_is sent sent_was sent_is, model_is expected.model was is, (v, refl, first, names_exactly u (formed_of expected.model) expected.free t behind v first))
+    (t, u, model_is sent sent_was sent_is, model_is expected.model was is, (v, refl, first, names_exactly u (formed_of expected.model) expected.free t behind v first))
 
 pub judge_ends : (n : ℕ) (was : Option (List Part)) (m : ℕ) (message : Message) (expected : Expected) (v : Option Verdict)
     → judge_asked n was m message ≡ None → was ≡ Some (parts_of expected.model)
@@ -108,4 +108,4 @@ pub judge_ends : (n : ℕ) (was : Option (List Part)) (m : ℕ) (message : Messa
 judge_ends n was m message expected v asked is first =
     let t = tree_of expected.model in
     subst (λ q. Ends q (λ told. (t : Tree) × ModelIs was t × JudgedBy t message told) (named fits v)) (sym asked)
-        (t, model_is expected.model was is, (v, refl, first, passes_exactly t (formed_of expected.model) expected.free message v first))
+    (t, model_is expected.model was is, (v, refl, first, passes_exactly t (formed_of expected.model) expected.free message v first))

@@ -50,8 +50,8 @@ last_declared [] m ps is = absurd (some-none ps (sym is))
 last_declared (e ∷ h) m ps is =
     ⊎_elim (λ yes. ([], e, h, refl, altered e.asked e.told m (stands h m) ps yes is, tt))
     (λ other.
-        let (since, d, before, split, declared, none) = last_declared h m ps (sym (unchanged e.asked e.told m (stands h m) other) ∙ is) in
-        (e ∷ since, d, before, ap (λ x. e ∷ x) split, declared, (other, none)))
+    let (since, d, before, split, declared, none) = last_declared h m ps (sym (unchanged e.asked e.told m (stands h m) other) ∙ is) in
+    (e ∷ since, d, before, ap (λ x. e ∷ x) split, declared, (other, none)))
     (cases_Bool (is_granted e.told && alters e.asked m))
 
 declared_stands : (since : History) (e : Event) (before : History) (m : ℕ) (ps : List Part) → Declared m ps e → NoneAltered m since → stands (since ++ (e ∷ before)) m ≡ Some ps

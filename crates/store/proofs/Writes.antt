@@ -60,11 +60,11 @@ pub sound_written : (sheet ps : List Part) (slots : List Slot) (k : ℕ) (s : Sl
 sound_written sheet ps slots k s long within few full sound own j =
     let n = length_written sheet ps k long within few in
     ⊎_elim (λ e.
-        let front = same_sound s 8192 (padded ps) (drop (256 * k) (written sheet k ps)) own (own_front sheet ps k long within few) in
-        rw (n, e, get_or-set_same slots k s Free (omega (arith, full, within))) front)
+    let front = same_sound s 8192 (padded ps) (drop (256 * k) (written sheet k ps)) own (own_front sheet ps k long within few) in
+    rw (n, e, get_or-set_same slots k s Free (omega (arith, full, within))) front)
     (λ ne.
-        let before = rw long at (sound j) in
-        rw (n, get_or-set_other slots k j s Free ne) (same_sound (slot_at j slots) 8192 _ _ before (λ l h. other_front sheet ps k long within few j l h ne)))
+    let before = rw long at (sound j) in
+    rw (n, get_or-set_other slots k j s Free ne) (same_sound (slot_at j slots) 8192 _ _ before (λ l h. other_front sheet ps k long within few j l h ne)))
     (cases_eq j k)
 
 -- slots that are all free
@@ -90,8 +90,8 @@ model_written sheet ps slots k s zero long within few full sound = rw (ne_eqb ze
 model_written sheet ps slots k s (suc j) long within few full sound =
     ⊎_elim (λ e. rw (e, get_or-set_same slots k s Free (omega (arith, full, within)), eq-eqb (suc k) (suc k) refl) refl)
     (λ ne.
-        rw (get_or-set_other slots k j s Free ne, ne_eqb (suc j) (suc k) (λ e. ne (omega (arith, e))))
-        (same_model (slot_at j slots) (length sheet) _ _ (sound j) (λ l h. other_front sheet ps k long within few j l h ne)))
+    rw (get_or-set_other slots k j s Free ne, ne_eqb (suc j) (suc k) (λ e. ne (omega (arith, e))))
+    (same_model (slot_at j slots) (length sheet) _ _ (sound j) (λ l h. other_front sheet ps k long within few j l h ne)))
     (cases_eq j k)
 
 -- the model of a slot that tells of the parts just written

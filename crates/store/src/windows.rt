@@ -37,11 +37,7 @@ fn write(sheet: &mut [Part], place: usize, parts: &[Part])
 }
 
 /// Writes a model, and blank parts after it, into the window of a number; gives its place.
-pub fn write_model(
-    sheet: &mut [Part],
-    number: u32,
-    model: &Model<'_>,
-) -> Result<usize, Refusal>
+pub fn write_model(sheet: &mut [Part], number: u32, model: &Model<'_>) -> Result<usize, Refusal>
     ensures { WindowIs number (parts_of model.now) sheet.old result sheet.new }
 {
     let place = place_of(sheet.len(), number)?;

@@ -49,11 +49,7 @@ pub(super) fn keep(
 }
 
 /// Keeps no model at a number.
-pub(super) fn clear(
-    sheet: &mut [Part],
-    slots: &mut Slots,
-    number: u32,
-) -> Result<(), Refusal>
+pub(super) fn clear(sheet: &mut [Part], slots: &mut Slots, number: u32) -> Result<(), Refusal>
     requires { Sound sheet.old slots.old.at }
     ensures kept { Kept sheet.old slots.old.at number [] Free result sheet.new slots.new.at }
     ensures sound { Sound sheet.new slots.new.at }

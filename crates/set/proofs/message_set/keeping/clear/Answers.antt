@@ -7,4 +7,4 @@ pub returns-clause-sound : goal.returns-clause-sound
 returns-clause-sound c =
     let (numbered, next, written) = c.in_ok-place.ensures in
     rw (written, c.put.ensures)
-        (sound_kept c.args.sheet.now [] c.args.slots.now.at c.args.number c.in_ok-place.place Free numbered next (omega arith) c.args.slots.now.full c.requires refl)
+    (sound_kept c.args.sheet.now [] c.args.slots.now.at c.args.number c.in_ok-place.place Free numbered next (omega arith) c.args.slots.now.full c.requires refl)

@@ -12,4 +12,4 @@ returns-clause-sound c =
     let checked = c.args.model.now.checked in
     let few = (model_sheet ps checked).2 in
     rw (written, c.put.ensures, c.parts-length.ensures.same)
-        (sound_kept c.args.sheet.now ps c.args.slots.now.at c.args.number c.in_ok-place.place (Declared (length ps)) numbered next few c.args.slots.now.full c.requires (model_sound ps few checked))
+    (sound_kept c.args.sheet.now ps c.args.slots.now.at c.args.number c.in_ok-place.place (Declared (length ps)) numbered next few c.args.slots.now.full c.requires (model_sound ps few checked))
