@@ -19,6 +19,7 @@ use store::windows::SHEET_PARTS;
 /// Runs the calls of a script as one season, and answers them in turn, each on a line of its
 /// own; a line that is no call ends the script. The memory is handed in beside what it serves,
 /// as in the standard library.
+#[tactic(auto, using(crate::proofs::Sofar::script_written, crate::proofs::Sofar::script_failed, std::proofs::lemmas::Result::err_from_is_err_and))]
 pub fn answer_script<W: io::Write>(heap: Global, text: &str, out: &mut W) -> Result<(), Failure>
     ensures { ScriptWritten (lines text.now) (W.contents out.old) (W.contents out.new) result }
 {
