@@ -87,3 +87,14 @@ module _ {F : Type 0} (rules : F → List Rule) (first : List Part) (calls : Lis
     run_recall is run steps =
         run_more rules first calls answers n Issued DrawnUp sheet sheet′ slots slots′ answer.Granted within run
         (subst (λ c. Answered rules c answer.Granted Issued sheet slots DrawnUp sheet′ slots′) (sym is) steps)
+
+-- the run of an issued set, which began where the one before it stopped before the end
+pub run_in_use : {F : Type 0} (rules : F → List Rule) (first : List Part) (calls : List (Call F)) (answers new : List Answer) (place end stop : ℕ)
+    (sheet sheet′ : List Part) (slots slots′ : List Slot)
+    → place ≤ end → place ≢ end → end ≤ length answers → (place < end → call_at place calls ≡ call.Issue)
+    → Runs rules first calls answers place DrawnUp sheet slots → Steps [] issue granted DrawnUp sheet slots Issued sheet′ slots′
+    → ((f : List Part) → Runs rules f calls (set answers place answer.Granted) (place + 1) Issued sheet′ slots′ → Runs rules f calls new stop Issued sheet′ slots′)
+    → Runs rules first calls new stop Issued sheet′ slots′
+run_in_use rules first calls answers new place end stop sheet sheet′ slots slots′ before other room stopped run steps used =
+    let small : place < end = omega (arith, before, other) in
+    used first (run_issue rules first calls answers place sheet sheet′ slots slots′ (omega (arith, small, room)) (stopped small) run steps)
