@@ -1,5 +1,5 @@
 -- What a call answers, by the definitions of the library. Assumes nothing.
-use Rattle.std.specs.Prelude.{◌≡◌, Bool, List, [], length, IsSomeAnd, Some, None, Ok, Err, vec_items, Decides, Option, Result}
+use Rattle.std.specs.Prelude.{◌≡◌, Bool, List, [], length, IsSomeAnd, None, Ok, Err, vec_items, Decides, Option, Result}
 use Rattle.models.specs.Conflicts.{first_conflict_of}
 use Rattle.models.specs.Messages.{HasOneOf}
 use Rattle.models.specs.Sheets.{table_answer}

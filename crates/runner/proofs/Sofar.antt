@@ -1,5 +1,5 @@
 -- What is read and written of a script so far, and one piece more. Assumes nothing.
-use Rattle.std.proofs.Common.{◌≡◌, ℕ, ◌+◌, ◌<◌, List, [], ◌∷◌, ◌++◌, codes, map, length, get_or, take, drop, None, Some, Ok, Err, Option, Result, inl, inr, sym, refl, ap, ◌∙◌, subst, append_assoc, append-nil, add-one, drop-cons, string_bytes, arith}
+use Rattle.std.proofs.Common.{◌≡◌, ℕ, ◌+◌, ◌<◌, List, [], ◌∷◌, ◌++◌, codes, length, get_or, take, drop, None, Some, Ok, Err, Option, Result, inl, inr, sym, refl, ap, ◌∙◌, subst, append_assoc, append-nil, add-one, drop-cons, arith}
 use Rattle.std.specs.Io.KnownBytes.{Appends}
 use Rattle.std.specs.List.{enumerate_from}
 use Rattle.std.proofs.lemmas.List.{take_more, take-append-drop, length-take-le}
@@ -9,10 +9,9 @@ use Rattle.set.specs.Histories.{History}
 use Rattle.script.specs.Words.{First, Begins}
 use Rattle.script.proofs.Words.{begins_more}
 use Rattle.script.specs.Lines.{LineRead}
-use Rattle.script.specs.declared.call.Call.{Call}
-use Rattle.runner.specs.Entries.{EntriesAre, Entered, LineEntered, ScriptEntered, BadAt}
+use Rattle.runner.specs.Entries.{EntriesAre, Entered, LineEntered, ScriptEntered}
 use Rattle.runner.specs.Failures.{IsIo}
-use Rattle.runner.specs.Scripts.{spaced, CallSaid, LineSaid, Said, Written, ScriptWritten}
+use Rattle.runner.specs.Scripts.{spaced, CallSaid, Said, Written, ScriptWritten}
 use Rattle.runner.specs.Turns.{EntriesSaid, EntriesWritten}
 use Rattle.runner.specs.declared.entry.Entry.{Entry}
 use Rattle.runner.specs.declared.failure.Failure.{Failure}

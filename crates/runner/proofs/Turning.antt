@@ -1,13 +1,12 @@
 -- The calls of the set that entries make, and what goes to entries, one entry more. Assumes nothing.
-use Rattle.std.proofs.Common.{◌≡◌, ℕ, zero, suc, ◌+◌, ◌-◌, ◌<◌, ◌≤◌, min, List, [], ◌∷◌, ◌++◌, codes, map, length, get_or, take, drop, Some, None, Option, Result, inl, inr, refl, sym, ap, ◌∙◌, subst, append_assoc, append-nil, arith}
+use Rattle.std.proofs.Common.{◌≡◌, ℕ, zero, suc, ◌+◌, ◌<◌, ◌≤◌, min, List, [], ◌∷◌, ◌++◌, codes, map, length, get_or, take, drop, Some, None, Option, Result, inl, inr, refl, sym, ap, ◌∙◌, subst, append_assoc, append-nil, arith}
 use Rattle.std.proofs.lemmas.List.{take_more, take_all, map-append, drop_more, drop_all}
 use Rattle.std.proofs.lemmas.Bool.{cases_lt}
 use Rattle.std.specs.Io.KnownBytes.{Appends}
-use Rattle.rules.specs.Rules.{Rule}
 use Rattle.rules.specs.declared.none.NoRules.{NoRules}
 use Rattle.set.specs.Histories.{Asked, Told, History}
 use Rattle.set.specs.Law.{Due}
-use Rattle.seasons.specs.Calls.{asked, behind, hung, told}
+use Rattle.seasons.specs.Calls.{asked, behind, told}
 use Rattle.seasons.specs.Runs.{call_at, answer_at, past, Lawful}
 use Rattle.seasons.specs.declared.call.Call.{Call as SetCall}
 use Rattle.seasons.specs.declared.call.Call.TheVariants as call

@@ -1,8 +1,7 @@
 -- What calls the lines of a script make. Assumes nothing.
-use Rattle.std.specs.Prelude.{◌≡◌, ℕ, ◌+◌, ◌⊎◌, List, [], ◌∷◌, ◌++◌, length, Some, None, Ok, Err, string_bytes, Option, Result}
+use Rattle.std.specs.Prelude.{◌≡◌, ℕ, ◌+◌, ◌⊎◌, List, [], ◌∷◌, ◌++◌, length, Some, None, Ok, Err, string_bytes, Result}
 use Rattle.script.specs.Complaints.{complaint}
 use Rattle.script.specs.Lines.{LineRead}
-use Rattle.script.specs.declared.call.Call.{Call}
 use Rattle.script.specs.declared.error.LineError.{LineError}
 use Rattle.runner.specs.declared.entry.Entry.{Entry}
 use Rattle.runner.specs.declared.failure.Failure.{Failure}

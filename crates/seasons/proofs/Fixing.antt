@@ -1,13 +1,12 @@
 -- That the law of a season fixes its answers. Assumes nothing.
-use Rattle.std.proofs.Common.{◌≡◌, ℕ, zero, suc, ◌<◌, ◌≤◌, cond, List, ◌∷◌, length, get_or, refl, sym, ap, ◌∙◌, subst, eqb, arith}
+use Rattle.std.proofs.Common.{◌≡◌, ℕ, zero, suc, ◌<◌, ◌≤◌, cond, List, length, refl, sym, ap, ◌∙◌, subst, eqb, arith}
 use Rattle.std.proofs.lemmas.List.{same_lists, get_or_default}
 use Rattle.parts.specs.Refusals.{Notice, notice}
 use Rattle.parts.specs.declared.refusal.Refusal.{Refusal}
 use Rattle.parts.specs.declared.refusal.Refusal.TheVariants.{SheetLength, NoSuchNumber, AlreadyDeclared, TableLength, Part, NotDeclared, Conflict, MessageLength, SymbolTooLarge}
-use Rattle.parts.specs.declared.refusal.PartFault.{PartFault}
 use Rattle.parts.specs.declared.refusal.PartFault.TheVariants.{UnknownKind, BadFields, TooFewWaiting, NoSymbolTaken, NotOneWaiting}
 use Rattle.rules.specs.Rules.{Rule}
-use Rattle.set.specs.Histories.{Told, History}
+use Rattle.set.specs.Histories.{Told}
 use Rattle.set.specs.Histories.Told.{granted, included, fits, names, refused, not_taken}
 use Rattle.set.specs.Law.{Due}
 use Rattle.set.proofs.Fixing.{due_fixed}

@@ -1,19 +1,18 @@
 -- One call more of a run, and that the law fixes the answers. Assumes nothing.
-use Rattle.std.proofs.Common.{◌≡◌, ℕ, zero, suc, ◌+◌, ◌<◌, ◌≤◌, ◌⊎◌, List, ◌∷◌, [], length, get_or, set, Some, None, refl, sym, ap, ◌∙◌, subst, inl, inr, ⊎_elim, ◌≢◌, arith}
+use Rattle.std.proofs.Common.{◌≡◌, ℕ, zero, suc, ◌+◌, ◌<◌, ◌≤◌, List, ◌∷◌, [], length, set, refl, sym, ◌∙◌, subst, ⊎_elim, ◌≢◌, arith}
 use Rattle.std.proofs.lemmas.List.{get_or-set_same, get_or-set_other, length-set}
-use Rattle.std.proofs.lemmas.Bool.{cases_eq, cases_lt}
+use Rattle.std.proofs.lemmas.Bool.{cases_eq}
 use Rattle.parts.specs.declared.part.Part.{Part}
 use Rattle.rules.specs.Rules.{Rule}
 use Rattle.store.specs.declared.slot.Slot.{Slot}
 use Rattle.set.specs.declared.state.State.{State}
 use Rattle.set.specs.declared.state.State.TheVariants.{DrawnUp, Issued}
-use Rattle.set.specs.Histories.{History, Event}
+use Rattle.set.specs.Histories.{Event}
 use Rattle.set.specs.Histories.Asked.{issue, recall}
 use Rattle.set.specs.Histories.Told.{granted}
-use Rattle.set.specs.Law.{Due}
-use Rattle.set.specs.Leading.{Leads, Shows, Steps}
-use Rattle.seasons.specs.Calls.{asked, behind, told}
-use Rattle.seasons.specs.Runs.{call_at, answer_at, past, Lawful, Runs, Beyond, Answered}
+use Rattle.set.specs.Leading.{Leads, Steps}
+use Rattle.seasons.specs.Calls.{asked, told}
+use Rattle.seasons.specs.Runs.{call_at, past, Lawful, Runs, Beyond, Answered}
 use Rattle.seasons.specs.declared.call.Call.{Call}
 use Rattle.seasons.specs.declared.call.Call.TheVariants as call
 use Rattle.seasons.specs.declared.answer.Answer.{Answer}

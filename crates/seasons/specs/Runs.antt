@@ -7,7 +7,7 @@ use Rattle.set.specs.declared.state.State.{State}
 use Rattle.set.specs.declared.state.State.TheVariants.{DrawnUp, Issued}
 use Rattle.set.specs.Histories.{History}
 use Rattle.set.specs.Law.{Due}
-use Rattle.set.specs.Leading.{Leads, Shows, Steps}
+use Rattle.set.specs.Leading.{Leads, Steps}
 use Rattle.seasons.specs.Calls.{asked, behind, told}
 use Rattle.seasons.specs.declared.call.Call.{Call}
 use Rattle.seasons.specs.declared.call.Call.TheVariants as call

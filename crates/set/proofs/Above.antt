@@ -1,8 +1,8 @@
 -- The first symbol above 63 of a message. Assumes nothing.
-use Rattle.std.proofs.Common.{◌≡◌, ℕ, ◌+◌, ◌/◌, ◌%◌, ◌^◌, ◌<◌, ◌≤◌, true, List, [], ◌∷◌, ◌++◌, length, Some, None, Option, refl, sym, ap, ◌∙◌, subst, inl, inr, eqb, leb, arith}
-use Rattle.std.proofs.lemmas.Bool.{agree_below_at, eqb-true, le-leb, lt-leb, leb-true, cases_lt}
+use Rattle.std.proofs.Common.{◌≡◌, ℕ, ◌+◌, ◌/◌, ◌%◌, ◌^◌, ◌<◌, ◌≤◌, true, [], ◌∷◌, ◌++◌, length, Some, None, refl, ap, ◌∙◌, inl, inr, eqb, arith}
+use Rattle.std.proofs.lemmas.Bool.{agree_below_at, eqb-true, le-leb, lt-leb, cases_lt}
 use Rattle.parts.specs.Sets.{In}
-use Rattle.models.specs.Messages.{Message, Occurs}
+use Rattle.models.specs.Messages.{Message}
 use Rattle.set.specs.Asking.{AllIn, FirstOutside}
 use Rattle.set.specs.Questions.{first_above}
 

@@ -1,12 +1,11 @@
 -- That the law of a set leaves no answer open. Assumes nothing.
-use Rattle.std.proofs.Common.{◌≡◌, ℕ, List, [], ◌++◌, Some, None, Ok, Err, Option, Result, refl, sym, ap, ◌∙◌, subst}
+use Rattle.std.proofs.Common.{◌≡◌, ℕ, List, ◌++◌, Some, None, Option, sym, ap, ◌∙◌, subst}
 use Rattle.parts.specs.Refusals.{Notice}
 use Rattle.parts.specs.declared.part.Part.{Part}
 use Rattle.models.specs.Messages.{Message}
 use Rattle.models.specs.Sheets.{table_answer, tree_or}
 use Rattle.models.specs.Trees.{Tree}
 use Rattle.rules.specs.Rules.{Rule, Breaks, SomeBreaks, FirstIs}
-use Rattle.rules.specs.declared.verdict.Verdict.{Verdict}
 use Rattle.rules.proofs.Firsts.{one_answer}
 use Rattle.set.specs.declared.state.State.{State}
 use Rattle.set.specs.declared.state.State.TheVariants.{DrawnUp, Issued}

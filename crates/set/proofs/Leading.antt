@@ -1,9 +1,9 @@
 -- That the calls of a set lead on from every history that led to it. Assumes nothing.
-use Rattle.std.proofs.Common.{◌≡◌, ℕ, zero, suc, ◌+◌, ◌-◌, ◌*◌, ◌<◌, ◌≤◌, Bool, true, false, cond, ◌&&◌, List, [], ◌∷◌, ◌++◌, length, is_ok, replicate, take, drop, get_or, set, Some, None, Ok, Err, Option, Result, refl, sym, ap, ◌∙◌, subst, ⊎_elim, eqb, leb, ◌≢◌, rules, arith}
+use Rattle.std.proofs.Common.{◌≡◌, ℕ, suc, ◌+◌, ◌-◌, ◌*◌, ◌<◌, ◌≤◌, Bool, true, false, cond, List, [], ◌∷◌, length, is_ok, replicate, take, drop, set, Some, None, Ok, Err, Option, Result, refl, sym, ap, ◌∙◌, subst, ⊎_elim, eqb, ◌≢◌, rules, arith}
 use Rattle.std.proofs.lemmas.List.{same_lists, places, length-replicate, get_or-replicate}
-use Rattle.std.proofs.lemmas.Bool.{and_parts, leb-true, eq-eqb, ne_eqb, cases_eq, cases_Bool, true≢false}
+use Rattle.std.proofs.lemmas.Bool.{eq-eqb, ne_eqb, cases_eq, true≢false}
 use Rattle.parts.specs.Parts.{blank}
-use Rattle.parts.specs.Refusals.{Notice, notice}
+use Rattle.parts.specs.Refusals.{Notice}
 use Rattle.parts.specs.declared.part.Part.{Part}
 use Rattle.parts.specs.declared.refusal.Refusal.{Refusal}
 use Rattle.models.specs.Messages.{Message}
@@ -12,17 +12,17 @@ use Rattle.models.proofs.Unlike.{some-none}
 use Rattle.models.proofs.Written.{model_sheet}
 use Rattle.models.specs.Trees.{Tree}
 use Rattle.rules.specs.Rules.{Rule}
-use Rattle.store.specs.Windows.{numbered, window, padded, written, slot_at, model_in, model_at, is_sound, Sound}
+use Rattle.store.specs.Windows.{numbered, window, padded, written, model_in, model_at, Sound}
 use Rattle.store.specs.declared.slot.Slot.{Slot}
 use Rattle.store.specs.declared.slot.Slot.TheVariants.{Free, Declared}
 use Rattle.store.proofs.Writes.{numbered_means, length_written, own_window, other_window, own_model, model_written, model_free}
 use Rattle.set.specs.declared.state.State.{State}
-use Rattle.set.specs.Histories.{Asked, Told, Event, History, granted_told, is_granted, changed, stands, moved, state}
+use Rattle.set.specs.Histories.{Told, Event, History, granted_told, is_granted, stands, state}
 use Rattle.set.specs.declared.state.State.TheVariants.{DrawnUp, Issued}
-use Rattle.set.specs.Histories.Asked.{declare, withdraw, issue, recall, compare, judge}
-use Rattle.set.specs.Histories.Told.{granted, refused}
-use Rattle.set.specs.Law.{Ends, Granted, DeclareEnds, WithdrawEnds, CompareEnds, JudgeEnds, InDrawnUp, InIssued, Due}
-use Rattle.set.specs.Leading.{shown, Shows, Leads, Steps, Leaves}
+use Rattle.set.specs.Histories.Asked.{declare, withdraw, compare, judge}
+use Rattle.set.specs.Histories.Told.{granted}
+use Rattle.set.specs.Law.{Ends, Granted, DeclareEnds, WithdrawEnds, CompareEnds, JudgeEnds, InDrawnUp, InIssued}
+use Rattle.set.specs.Leading.{shown, Leads, Steps, Leaves}
 use Rattle.set.specs.Questions.{first_no, fault_told, number_question, table_question, free_question, declared_question}
 
 -- a stretch of a list of one element

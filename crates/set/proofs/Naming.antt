@@ -1,5 +1,5 @@
 -- What the first broken rule of the five lists, and of those hung behind, says of messages. Assumes nothing.
-use Rattle.std.proofs.Common.{◌≡◌, ◌⊎◌, ℕ, List, [], ◌∷◌, ◌++◌, Some, None, Ok, Option, sym, refl, subst, inl, inr, ⊎_elim, ◌∙◌}
+use Rattle.std.proofs.Common.{◌≡◌, ℕ, List, [], ◌∷◌, ◌++◌, Some, None, Option, sym, refl, subst, inl, inr}
 use Rattle.parts.specs.declared.part.Part.{Part}
 use Rattle.models.specs.Checked.{tree_of, parts_of}
 use Rattle.models.specs.Conflicts.{ConflictFree, first_conflict_of}

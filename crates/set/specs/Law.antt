@@ -13,7 +13,7 @@ use Rattle.set.specs.declared.state.State.{State}
 use Rattle.set.specs.Histories.{Asked, Told, History, named, stands, state}
 use Rattle.set.specs.declared.state.State.TheVariants.{DrawnUp, Issued}
 use Rattle.set.specs.Histories.Asked.{declare, withdraw, issue, recall, compare, judge}
-use Rattle.set.specs.Histories.Told.{granted, included, fits, names, refused, not_taken}
+use Rattle.set.specs.Histories.Told.{granted, included, fits, refused, not_taken}
 use Rattle.set.specs.Questions.{first_no, number_question, free_question, table_question, declared_question, conflict_question, length_question, symbols_question}
 
 -- the refusal of the first question that gets a no, or else what is said

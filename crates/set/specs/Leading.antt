@@ -6,7 +6,7 @@ use Rattle.rules.specs.Rules.{Rule}
 use Rattle.store.specs.Windows.{window, padded, written, model_at}
 use Rattle.store.specs.declared.slot.Slot.{Slot}
 use Rattle.set.specs.declared.state.State.{State}
-use Rattle.set.specs.Histories.{Asked, Told, Event, History, stands, state}
+use Rattle.set.specs.Histories.{Asked, Told, History, stands, state}
 use Rattle.set.specs.Law.{Due}
 
 -- what the window of a number holds: the model that stands, followed by blank parts

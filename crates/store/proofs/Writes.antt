@@ -1,6 +1,6 @@
 -- What a write into one window leaves of a sheet, and of what its slots tell of. Assumes nothing.
-use Rattle.std.proofs.Common.{◌≡◌, ℕ, zero, suc, ◌+◌, ◌-◌, ◌*◌, ◌<◌, ◌≤◌, Bool, true, false, ◌&&◌, cond, List, ◌∷◌, ◌++◌, length, replicate, take, drop, get_or, set, Some, None, refl, sym, ap, ◌∙◌, inl, inr, ⊎_elim, eqb, leb, rules, arith}
-use Rattle.std.proofs.lemmas.List.{same_lists, places, append_assoc, length-append, length-take, length-take-le, length-drop, length-replicate, drop_at, take_at, take-append-le, get_or-set_same, get_or-set_other, get_or_past, get_or-replicate}
+use Rattle.std.proofs.Common.{◌≡◌, ℕ, zero, suc, ◌+◌, ◌-◌, ◌*◌, ◌<◌, ◌≤◌, true, ◌&&◌, cond, List, ◌++◌, length, replicate, take, drop, set, Some, None, refl, ap, ◌∙◌, ⊎_elim, eqb, leb, rules, arith}
+use Rattle.std.proofs.lemmas.List.{same_lists, places, length-append, length-take, length-take-le, length-drop, length-replicate, drop_at, take_at, take-append-le, get_or-set_same, get_or-set_other, get_or_past, get_or-replicate}
 use Rattle.std.proofs.lemmas.Bool.{and_parts, le-leb, leb-true, eqb-true, eq-eqb, ne_eqb, cases_eq, cases_lt}
 use borrow.Rule.Slice.PartMut.{put_mid}
 use Rattle.parts.specs.Parts.{blank}

@@ -1,5 +1,5 @@
 -- A sheet that keeps models, one in each of its windows of 256 parts, and what its slots say. Assumes nothing.
-use Rattle.std.specs.Prelude.{◌≡◌, ℕ, zero, suc, ◌+◌, ◌-◌, ◌*◌, Bool, true, false, cond, ◌&&◌, List, ◌++◌, length, replicate, take, drop, get_or, Some, None, Ok, Err, Option, Result, ◌==◌, nat_le}
+use Rattle.std.specs.Prelude.{◌≡◌, ℕ, zero, suc, ◌+◌, ◌-◌, ◌*◌, Bool, true, false, ◌&&◌, List, ◌++◌, length, replicate, take, drop, get_or, Some, None, Ok, Err, Option, Result, ◌==◌, nat_le}
 use Rattle.parts.specs.Parts.{blank}
 use Rattle.parts.specs.Refusals.{notice, at_set}
 use Rattle.parts.specs.declared.refusal.Refusal.{Refusal}

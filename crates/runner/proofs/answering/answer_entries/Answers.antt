@@ -1,7 +1,7 @@
-use Rattle.std.proofs.Common.{◌≡◌, ◌++◌, [], length, map, take, drop, ap, ◌∙◌, subst, sym, rules, arith}
+use Rattle.std.proofs.Common.{◌≡◌, length, map, drop, arith}
 use Rattle.std.proofs.lemmas.List.{take_at}
-use Rattle.seasons.specs.Calls.{asked, told}
-use Rattle.runner.specs.Turns.{AllDue, asked_in}
+use Rattle.seasons.specs.Calls.{asked}
+use Rattle.runner.specs.Turns.{asked_in}
 use Rattle.runner.proofs.Turning.{season_due}
 use Rattle.runner.proofs.answering.answer_entries.Goals as goal
 

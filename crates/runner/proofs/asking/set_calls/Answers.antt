@@ -1,9 +1,8 @@
-use Rattle.std.proofs.Common.{◌≡◌, List, [], ◌∷◌, ◌++◌, map, take, get_or, is_ok, sym, ap, ◌∙◌, subst, rules}
+use Rattle.std.proofs.Common.{map, is_ok, sym, ap, ◌∙◌}
 use Rattle.std.proofs.ResultArms.{chosen}
 use Rattle.seasons.specs.Calls.{asked}
 use Rattle.runner.specs.Scripts.{asked_of}
-use Rattle.runner.specs.Turns.{asked_in}
-use Rattle.runner.proofs.Turning.{asked_none, asked_some, all_due}
+use Rattle.runner.proofs.Turning.{asked_none, asked_some}
 use Rattle.runner.proofs.asking.set_calls.Goals as goal
 use Rattle.runner.proofs.asking.set_calls.Goals.{in-Some+in_ok-push, in_default}
 

@@ -1,4 +1,4 @@
-use Rattle.std.proofs.Common.{◌+◌, ◌<◌, ◌≤◌, length, set, refl, sym, ◌∙◌, subst, arith}
+use Rattle.std.proofs.Common.{◌+◌, ◌<◌, ◌≤◌, length, set, refl, ◌∙◌, subst, arith}
 use Rattle.set.specs.Leading.{Shows}
 use Rattle.seasons.specs.Runs.{past, Lawful}
 use Rattle.seasons.specs.declared.answer.Answer.TheVariants as answer

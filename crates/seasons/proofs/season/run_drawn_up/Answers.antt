@@ -1,7 +1,7 @@
-use Rattle.std.proofs.Common.{◌≡◌, ◌<◌, length, refl, sym, ◌∙◌, subst, rules, arith}
+use Rattle.std.proofs.Common.{◌≡◌, ◌<◌, length, refl, ◌∙◌, subst, arith}
 use Rattle.std.proofs.lemmas.List.{get_or_read}
 use Rattle.set.specs.declared.state.State.TheVariants.{DrawnUp}
-use Rattle.seasons.specs.Runs.{call_at, Answered, Runs, Beyond}
+use Rattle.seasons.specs.Runs.{Answered, Runs, Beyond}
 use Rattle.seasons.specs.declared.call.Call.TheVariants as call
 use Rattle.seasons.proofs.Running.{run_more, beyond_none, beyond_more}
 use Rattle.seasons.proofs.season.run_drawn_up.Goals as goal
