@@ -1,4 +1,4 @@
-//! The check of a table of parts, which alone makes models.
+//! The check of a table of parts, which makes a model of it.
 
 ghost use Rattle.std.specs.Prelude.{◌≡◌, ◌+◌, ◌<◌, ◌≤◌, List, [], length, IfOk};
 ghost use Rattle.models.specs.Checked.{parts_of, tree_of, told as answered};
