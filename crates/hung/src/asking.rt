@@ -34,14 +34,15 @@ pub(crate) fn calls_with<F>(family: &F) -> [Call<'_, F>; 23] {
         declare(5, &tables::ONLY_A),
         declare(6, &tables::D_THEN_A),
         Call::Issue,
-        // the five families of model 2 are broken by none of 1, 3, 4 and 5
+        // no message of 1, 3, 4 and 5 breaks a rule of model 2 itself; but 1 may send d, which
+        // the board cannot show, 3 may send nothing, 4 either of these, and 5 neither
         compare(1, 2, None),
         compare(1, 2, behind),
         compare(3, 2, behind),
         compare(4, 2, None),
         compare(4, 2, behind),
         compare(5, 2, behind),
-        // those of model 1 are broken by 6 and by 4, whatever is hung behind
+        // 6 and 4 break a rule of model 1 itself, which comes before what is hung behind
         compare(6, 1, None),
         compare(6, 1, behind),
         compare(4, 1, None),
@@ -55,6 +56,7 @@ pub(crate) fn calls_with<F>(family: &F) -> [Call<'_, F>; 23] {
         compare(5, 2, behind),
         Call::Withdraw { number: 1 },
         Call::Issue,
+        // no model stands at 1: what is hung behind adds no question and takes none away
         compare(1, 2, behind),
     ]
 }
