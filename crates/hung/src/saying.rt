@@ -1,0 +1,61 @@
+//! How a call is written: its words as in a script, and what is hung behind it.
+
+use parts::part::Part;
+use seasons::call::Call;
+use std::fmt;
+
+/// A call to be printed, with the words for the family that some of its season's compares
+/// have behind them.
+#[derive_where(Clone, Copy)]
+pub(crate) struct Words<'a, 'c, F> {
+    pub(crate) call: &'a Call<'c, F>,
+    pub(crate) family: &'a str,
+}
+
+impl<F> fmt::Display for Words<'_, '_, F> {
+    fn fmt<W: fmt::Write>(&self, f: &mut fmt::Formatter<W>) -> fmt::Result {
+        let family = self.family;
+        match self.call {
+            Call::Issue => f.write_str("issue"),
+            Call::Recall => f.write_str("recall"),
+            Call::Withdraw { number } => write!(f, "withdraw {number}"),
+            Call::Declare { number, parts } => {
+                write!(f, "declare {number}")?;
+                write_parts(parts, f)
+            }
+            Call::Judge { number, message } => {
+                write!(f, "judge {number}")?;
+                write_symbols(message, f)
+            }
+            Call::Compare {
+                sent,
+                expected,
+                behind,
+            } => {
+                write!(f, "compare {sent} {expected}")?;
+                match behind {
+                    Some(_) => write!(f, ", {family} behind"),
+                    None => Ok(()),
+                }
+            }
+        }
+    }
+}
+
+fn write_parts<W: fmt::Write>(parts: &[Part], f: &mut fmt::Formatter<W>) -> fmt::Result {
+    for part in parts {
+        let kind = part.kind;
+        let symbol = part.symbol;
+        let low = part.low;
+        let high = part.high;
+        write!(f, " {kind}:{symbol}:{low}:{high}")?;
+    }
+    Ok(())
+}
+
+fn write_symbols<W: fmt::Write>(message: &[u32], f: &mut fmt::Formatter<W>) -> fmt::Result {
+    for symbol in message {
+        write!(f, " {symbol}")?;
+    }
+    Ok(())
+}
