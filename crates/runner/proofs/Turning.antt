@@ -1,5 +1,5 @@
 -- The calls of the set that entries make, and what goes to entries, one entry more. Assumes nothing.
-use Rattle.std.proofs.Common.{◌≡◌, ℕ, zero, suc, ◌+◌, ◌<◌, ◌≤◌, min, List, [], ◌∷◌, ◌++◌, codes, map, length, get_or, take, drop, Some, None, Option, Result, inl, inr, refl, sym, ap, ◌∙◌, subst, append_assoc, append-nil, arith}
+use Rattle.std.proofs.Common.{◌≡◌, ℕ, zero, suc, ◌+◌, ◌<◌, ◌≤◌, List, [], ◌∷◌, ◌++◌, codes, map, length, get_or, take, drop, Some, None, Option, Result, inl, inr, refl, sym, ap, ◌∙◌, subst, append_assoc, append-nil, arith}
 use Rattle.std.proofs.lemmas.List.{take_more, take_all, map-append, drop_more, drop_all}
 use Rattle.std.proofs.lemmas.Bool.{cases_lt}
 use Rattle.std.specs.Io.KnownBytes.{Appends}
@@ -15,7 +15,6 @@ use Rattle.seasons.specs.declared.answer.Answer.TheVariants as answer
 use Rattle.script.specs.declared.call.Call.{Call}
 use Rattle.script.specs.declared.call.Call.TheVariants.{Check, Ask, Declare, Withdraw, Issue, Recall, Compare, Judge}
 use Rattle.seasons.specs.Texts.{told_said}
-use Rattle.parts.specs.declared.part.Part.{Part}
 use Rattle.parts.specs.declared.refusal.Refusal.{Refusal}
 use Rattle.models.proofs.Unlike.{some-none}
 use Rattle.answers.specs.Answers.{CallAnswered}
@@ -165,10 +164,7 @@ pub turned_all : (es : List Entry) (n : ℕ) (left : List Told) (old new : Optio
 turned_all es n left old new end turned = (turned.text, turned.history, subst (λ l. EntriesSaid [] l turned.text turned.history) (take_all n es end) turned.said, turned.written)
 
 -- what a whole season over 8,192 parts told is what is due to the entries
-pub season_due : (es : List Entry) (calls : List (SetCall NoRules)) (sheet : List Part) (answers new : List Answer) (n : ℕ)
-    → map asked calls ≡ asked_in es → length sheet ≡ 8192 → length answers ≡ length calls → n ≡ min (length calls) (length answers)
-    → length new ≡ length answers → Lawful (λ _. []) (length sheet) n calls new → AllDue [] (asked_in es) (map told new)
-season_due es calls sheet answers new n asks long same count kept lawful =
-    let all : n ≡ length calls = omega (arith, count, same) in
-    let run = subst (λ k. Lawful (λ _. []) 8192 k calls new) all (subst (λ l. Lawful (λ _. []) l n calls new) long lawful) in
-    subst (λ l. AllDue [] l (map told new)) asks (all_due calls new (kept ∙ same) run)
+pub season_due : (es : List Entry) (calls : List (SetCall NoRules)) (answers : List Answer) (l : ℕ) → l ≡ 8192 → map asked calls ≡ asked_in es → length answers ≡ length calls
+    → Lawful (λ _. []) l (length calls) calls answers → AllDue [] (asked_in es) (map told answers)
+season_due es calls answers l long asks same lawful =
+    subst (λ told_of. AllDue [] told_of (map told answers)) asks (all_due calls answers same (subst (λ n. Lawful (λ _. []) n (length calls) calls answers) long lawful))
