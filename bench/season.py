@@ -153,7 +153,7 @@ class Bench:
         self.program = program
         self.folder = Path(folder)
         # how much longer the script with many calls is to take, and how often each is run
-        self.wanted, self.runs = (0.03, 3) if quick else (0.3, 9)
+        self.wanted, self.runs = (0.03, 5) if quick else (0.1, 30)
         self.timed = {}
 
     def write(self, name, models, call, count):
