@@ -46,7 +46,7 @@ module _ (behind : List Rule) (sent was : Option (List Part)) where
   Compares told = (t : Tree) × (u : Tree) × ModelIs sent t × ModelIs was u × ComparedTo t u behind told
 
   compares_fixed : Fixed Compares
-  compares_fixed a b (t, u, one, other, (v, is, first, exact)) (t′, u′, one′, other′, (v′, is′, first′, exact′)) =
+  compares_fixed a b (t, u, one, other, (v, is, first, at, exact)) (t′, u′, one′, other′, (v′, is′, first′, at′, exact′)) =
       let at_t = subst (λ x. FirstIs (SomeBreaks x) (five u′ ++ behind) v′) (model_fixed sent t′ t one′ one) first′ in
       let at_u = subst (λ x. FirstIs (SomeBreaks t) (five x ++ behind) v′) (model_fixed was u′ u other′ other) at_t in
       is ∙ ap (named included) (one_answer (SomeBreaks t) (five u ++ behind) v v′ first at_u) ∙ sym is′
@@ -56,7 +56,7 @@ module _ (was : Option (List Part)) (message : Message) where
   Judges told = (t : Tree) × ModelIs was t × JudgedBy t message told
 
   judges_fixed : Fixed Judges
-  judges_fixed a b (t, one, (v, is, first, exact)) (t′, one′, (v′, is′, first′, exact′)) =
+  judges_fixed a b (t, one, (v, is, first, at, exact)) (t′, one′, (v′, is′, first′, at′, exact′)) =
       let at_t = subst (λ x. FirstIs (Breaks message) (five x) v′) (model_fixed was t′ t one′ one) first′ in
       is ∙ ap (named fits) (one_answer (Breaks message) (five t) v v′ first at_t) ∙ sym is′
 

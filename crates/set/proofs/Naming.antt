@@ -1,5 +1,5 @@
 -- What the first broken rule of the five lists, and of those hung behind, says of messages. Assumes nothing.
-use Rattle.std.proofs.Common.{◌≡◌, ℕ, List, [], ◌∷◌, ◌++◌, Some, None, Option, sym, refl, subst, inl, inr}
+use Rattle.std.proofs.Common.{◌≡◌, ℕ, List, [], ◌∷◌, ◌++◌, Some, None, Option, sym, refl, subst, inl, inr, zero, suc, ◌<◌, ap, arith}
 use Rattle.parts.specs.declared.part.Part.{Part}
 use Rattle.models.specs.Checked.{tree_of, parts_of}
 use Rattle.models.specs.Conflicts.{ConflictFree, first_conflict_of}
@@ -18,7 +18,7 @@ use Rattle.set.specs.Exact.{Included}
 use Rattle.set.specs.Five.{upper_bound_rules, lower_bound_rules, cardinality_rules, co_occurrence_rules, order_rules, five}
 use Rattle.set.specs.Histories.{named}
 use Rattle.set.specs.Histories.Told.{included, fits}
-use Rattle.set.specs.Law.{Fails, SomeFails, NamesExactly, PassesExactly, ModelIs, ComparedTo, JudgedBy, Ends, compare_asked, judge_asked, CompareEnds, JudgeEnds}
+use Rattle.set.specs.Law.{RuleAt, NamedFirst, Fails, SomeFails, NamesExactly, PassesExactly, ModelIs, ComparedTo, JudgedBy, Ends, compare_asked, judge_asked, CompareEnds, JudgeEnds}
 use Rattle.set.specs.declared.expected.Expected.{Expected}
 use Rattle.set.proofs.Exact.{five_exact, five_include, five_fit}
 use Rattle.set.proofs.Sets.{formed_of}
@@ -39,6 +39,33 @@ pub five_alone : (P : Rule → Type 0) (t : Tree) (a b c d e : Expected) (answer
     answer
     → FirstIs P (five t) answer
 five_alone P t a b c d e answer (f, g, h, i, j) first = rw (f, g, h, i, j) at first
+
+verdict_or : Verdict → Option Verdict → Verdict
+verdict_or d None = d
+verdict_or d (Some v) = v
+
+same_verdict : (v w : Verdict) → Some v ≡ Some w → w ≡ v
+unfolding verdict_or
+same_verdict v w e = sym (ap (verdict_or v) e)
+
+-- where the first of a list stands
+pub named_first : (P : Rule → Type 0) (rules : List Rule) (v : Option Verdict) → FirstIs P rules v → NamedFirst P rules v
+named_first P [] None first = λ k h. h
+named_first P [] (Some v) first = absurd (some-none v first)
+named_first P (rule ∷ rules) None (inl (holds, e)) = absurd (some-none rule.verdict (sym e))
+named_first P (rule ∷ rules) None (inr (fails, more)) = none_here (named_first P rules None more)
+  where
+    none_here : ((k : ℕ) → RuleAt P rules k → ⊥) → (k : ℕ) → RuleAt P (rule ∷ rules) k → ⊥
+    none_here none zero h = fails h
+    none_here none (suc k) h = none k h
+named_first P (rule ∷ rules) (Some v) (inl (holds, e)) = (0, (holds, same_verdict v rule.verdict e), λ j before h. absurd (omega (arith, before)))
+named_first P (rule ∷ rules) (Some v) (inr (fails, more)) =
+    let (k, here, none) = named_first P rules (Some v) more in
+    (suc k, here, none_before k none)
+  where
+    none_before : (k : ℕ) → ((j : ℕ) → j < k → RuleAt P rules j → ⊥) → (j : ℕ) → j < suc k → RuleAt P (rule ∷ rules) j → ⊥
+    none_before k none zero before h = fails h
+    none_before k none (suc j) before h = none j (omega (arith, before)) h
 
 -- a rule that is named is broken by some message, which does not keep all of its list
 some_unkept : (t : Tree) (rules : List Rule) (v : Verdict) → FirstIs (SomeBreaks t) rules (Some v) → (m : Message) × Fits t m × (KeepsAll rules m → ⊥)
@@ -99,7 +126,7 @@ compare_ends behind n sent_was was s e sent expected v asked sent_is is first =
     let t = tree_of sent in
     let u = tree_of expected.model in
     subst (λ q. Ends q (λ told. (t : Tree) × (u : Tree) × ModelIs sent_was t × ModelIs was u × ComparedTo t u behind told) (named included v)) (sym asked)
-    (t, u, model_is sent sent_was sent_is, model_is expected.model was is, (v, refl, first, names_exactly u (formed_of expected.model) expected.free t behind v first))
+    (t, u, model_is sent sent_was sent_is, model_is expected.model was is, (v, refl, first, named_first (SomeBreaks t) (five u ++ behind) v first, names_exactly u (formed_of expected.model) expected.free t behind v first))
 
 pub judge_ends : (n : ℕ) (was : Option (List Part)) (m : ℕ) (message : Message) (expected : Expected) (v : Option Verdict)
     → judge_asked n was m message ≡ None → was ≡ Some (parts_of expected.model)
@@ -108,4 +135,4 @@ pub judge_ends : (n : ℕ) (was : Option (List Part)) (m : ℕ) (message : Messa
 judge_ends n was m message expected v asked is first =
     let t = tree_of expected.model in
     subst (λ q. Ends q (λ told. (t : Tree) × ModelIs was t × JudgedBy t message told) (named fits v)) (sym asked)
-    (t, model_is expected.model was is, (v, refl, first, passes_exactly t (formed_of expected.model) expected.free message v first))
+    (t, model_is expected.model was is, (v, refl, first, named_first (Breaks message) (five t) v first, passes_exactly t (formed_of expected.model) expected.free message v first))

@@ -1,5 +1,5 @@
 -- The law of a message set: what each call is answered after a history. Assumes nothing.
-use Rattle.std.specs.Prelude.{◌≡◌, ℕ, ◌⊎◌, List, [], ◌∷◌, ◌++◌, Some, None, Ok, Option}
+use Rattle.std.specs.Prelude.{◌≡◌, ℕ, zero, suc, ◌<◌, ◌⊎◌, List, [], ◌∷◌, ◌++◌, Some, None, Ok, Option}
 use Rattle.parts.specs.Refusals.{Notice}
 use Rattle.parts.specs.declared.part.Part.{Part}
 use Rattle.models.specs.Messages.{Message}
@@ -28,6 +28,17 @@ Granted told = told ≡ granted
 abbrev pub ModelIs : Option (List Part) → Tree → Type 0
 ModelIs was t = (ps : List Part) × (was ≡ Some ps) × (table_answer ps ≡ Ok t)
 
+-- Q holds of the rule at place k of a list
+abbrev pub RuleAt : (Rule → Type 0) → List Rule → ℕ → Type 0
+RuleAt Q [] k = ⊥
+RuleAt Q (rule ∷ rules) zero = Q rule
+RuleAt Q (rule ∷ rules) (suc k) = RuleAt Q rules k
+
+-- the rule that is named is one of the list, P holds of it and of none placed before it; where none is named, P holds of none
+abbrev pub NamedFirst : (Rule → Type 0) → List Rule → Option Verdict → Type 0
+NamedFirst P rules None = (k : ℕ) → RuleAt P rules k → ⊥
+NamedFirst P rules (Some v) = (k : ℕ) × RuleAt (λ rule. P rule × (rule.verdict ≡ v)) rules k × ((j : ℕ) → j < k → RuleAt P rules j → ⊥)
+
 -- the message does not fit the model, or it breaks one of the rules hung behind
 abbrev pub Fails : Tree → List Rule → Message → Type 0
 Fails t [] m = Fits t m → ⊥
@@ -50,11 +61,13 @@ PassesExactly t m (Some v) = Fits t m → ⊥
 -- compare: of the five families' rules of the expected model, and then of those hung behind, the first that some message of the sent model breaks
 abbrev pub ComparedTo : Tree → Tree → List Rule → Told → Type 0
 ComparedTo sent expected behind told =
-    (v : Option Verdict) × (told ≡ named included v) × FirstIs (SomeBreaks sent) (five expected ++ behind) v × NamesExactly sent expected behind v
+    (v : Option Verdict) × (told ≡ named included v) × FirstIs (SomeBreaks sent) (five expected ++ behind) v
+    × NamedFirst (SomeBreaks sent) (five expected ++ behind) v × NamesExactly sent expected behind v
 
 -- judge: of the five families' rules of the model, the first that the message breaks
 abbrev pub JudgedBy : Tree → Message → Told → Type 0
-JudgedBy t m told = (v : Option Verdict) × (told ≡ named fits v) × FirstIs (Breaks m) (five t) v × PassesExactly t m v
+JudgedBy t m told =
+    (v : Option Verdict) × (told ≡ named fits v) × FirstIs (Breaks m) (five t) v × NamedFirst (Breaks m) (five t) v × PassesExactly t m v
 
 -- what the calls end with on a sheet of n parts, by what stands at the numbers that they are given
 abbrev pub DeclareEnds : ℕ → Option (List Part) → ℕ → List Part → Told → Type 0
