@@ -12,8 +12,8 @@ use std::alloc::Global;
 
 /// A call of a script. A call more is a variant here, an arm in `named` with what reads
 /// its words, a name in the text of `NoSuchCall` and in the program's help, and an arm in
-/// `answer_call` of `answers`; and each of these has its line in a definition: `CallRead`
-/// and `Uncalled`, `complaint`, `CallAnswered`.
+/// `answer_call` of `answers`, of a set also in `set_call` of `runner`; and each of these has
+/// its line in a definition: `CallRead` and `Uncalled`, `complaint`, `CallAnswered`, `asked_of`.
 #[derive(Drop)]
 pub enum Call {
     /// Check parts as a model.
