@@ -1,3 +1,4 @@
 pub mod Joining
 pub mod SymbolSets
 pub mod Taking
+pub mod Sizes

@@ -1,13 +1,12 @@
 -- Which symbols stand in a set, a union and a set of one. Assumes nothing.
-use Rattle.std.proofs.Common.{◌≡◌, ℕ, suc, ◌+◌, ◌-◌, ◌*◌, ◌/◌, ◌%◌, ◌^◌, ◌<◌, ◌≤◌, w64, max, eqb, leb, ◌⊎◌, sym, refl, ap, ◌∙◌, subst, inl, inr, ⊎_elim, arith}
+use Rattle.std.proofs.Common.{◌≡◌, ℕ, suc, ◌+◌, ◌-◌, ◌*◌, ◌/◌, ◌%◌, ◌^◌, ◌<◌, ◌≤◌, w64, max, leb, ◌⊎◌, sym, ap, ◌∙◌, subst, inl, inr, ⊎_elim, arith}
 use native.Mathlib.Nat.{two-pow-succ, div-eq_of_lt, zero-div}
 use lib.Bits.{bit_and, bit_or, or_shr, or_step}
-use lib.Count.{ones}
-use Rattle.std.specs.Int.{bit_at, bit_not, trailing_zeros}
-use Rattle.std.proofs.lemmas.Nat.Bits.{bit_at_and, bit_at_not, bit_at-lt, bit_at-trailing_zeros, same_from_bits_below}
-use Rattle.std.proofs.lemmas.Nat.{zero_from_ones, pow-add, pow_below, shl-shr}
-use Rattle.std.proofs.lemmas.Bool.{cases_eq, cases_Bool, cases_lt, cases_order, cond-true, cond-false, eq-eqb, ne_eqb, le-leb}
-use Rattle.parts.specs.Sets.{In, EmptyIs, DifferenceIs, only}
+use Rattle.std.specs.Int.{bit_at, bit_not}
+use Rattle.std.proofs.lemmas.Nat.Bits.{bit_at_and, bit_at_not, bit_at-lt, same_from_bits_below}
+use Rattle.std.proofs.lemmas.Nat.{pow-add, pow_below, shl-shr}
+use Rattle.std.proofs.lemmas.Bool.{cases_eq, cases_Bool, cases_lt, cases_order, cond-true, cond-false, le-leb}
+use Rattle.parts.specs.Sets.{In, DifferenceIs, only}
 
 -- a bit of a union
 or_bit : (a b s : ℕ) → (bit_or a b / 2 ^ s) % 2 ≡ max ((a / 2 ^ s) % 2) ((b / 2 ^ s) % 2)
@@ -92,20 +91,6 @@ difference_is a b small s = (
       let other = bit_at_not w64 b s small (omega arith) in
       elim (cases_eq (bit_at b s) 1) [ inl e ↦ absurd (none (low, e)) | inr ne ↦ (low, omega arith) ]),
 )
-
-no_ones : ones 0 ≡ 0
-unfolding ones
-no_ones = refl
-
--- a set that is not 0 has a symbol, and 0 has none
-pub empty_is : (set : ℕ) → set < 2 ^ 64 → EmptyIs (eqb (ones set) 0) set
-empty_is set small = go (cases_eq (ones set) 0)
-  where
-    go : (ones set ≡ 0) ⊎ (ones set ≡ 0 → ⊥) → EmptyIs (eqb (ones set) 0) set
-    go (inl e) = rw (eq-eqb (ones set) 0 e) (λ s h. in_none s (subst (λ n. In n s) (zero_from_ones set e) h))
-    go (inr ne) =
-        rw (ne_eqb (ones set) 0 ne)
-        (let some : 0 < set = elim (cases_eq set 0) [ inl e ↦ absurd (ne (ap ones e ∙ no_ones)) | inr other ↦ omega arith ] in let (within, here, below) = bit_at-trailing_zeros w64 set some small in (trailing_zeros w64 set, (omega arith, here)))
 
 -- two sets with the same symbols are one set
 pub same_set : (a b : ℕ) → a < 2 ^ 64 → b < 2 ^ 64 → ((s : ℕ) → (In a s → In b s) × (In b s → In a s)) → a ≡ b

@@ -1,7 +1,7 @@
 //! Sets of symbols, and how they are printed.
 
-ghost use Rattle.std.specs.Prelude.{◌≡◌, ◌^◌, if◌then◌else◌, Some, Decides, bit_and, bit_or, nat_le};
-ghost use Rattle.parts.specs.Sets.{In, EmptyIs, DifferenceIs, Taken, listed};
+ghost use Rattle.std.specs.Prelude.{◌≡◌, ◌^◌, if◌then◌else◌, Some, Decides, bit_and, bit_or, length, nat_le};
+ghost use Rattle.parts.specs.Sets.{In, EmptyIs, DifferenceIs, Taken, listed, members};
 
 use crate::part::LAST_SYMBOL;
 use std::fmt;
@@ -37,11 +37,18 @@ impl SymbolSet {
         symbol <= LAST_SYMBOL && (self.bits >> symbol) & 1 == 1
     }
 
+    /// How many symbols it has, 0 to 64.
+    pub fn len(&self) -> u32
+        ensures { result ≡ length (members self.now.bits) }
+    {
+        self.bits.count_ones()
+    }
+
     /// Whether it has no symbol.
     pub fn is_empty(&self) -> bool
         ensures { EmptyIs result self.now.bits }
     {
-        self.bits.count_ones() == 0
+        self.len() == 0
     }
 
     /// Takes out the smallest symbol, if there is one. A loop over it goes through the

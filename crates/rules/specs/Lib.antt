@@ -1,2 +1,3 @@
+pub mod Either
 pub mod Rules
 pub mod Texts

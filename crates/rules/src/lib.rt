@@ -4,6 +4,7 @@
 #![tactic(auto)]
 
 pub mod chain;
+mod either;
 pub mod family;
 pub mod none;
 #[cfg(test)]

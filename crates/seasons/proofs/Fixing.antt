@@ -11,7 +11,7 @@ use Rattle.set.specs.Histories.Told.{granted, included, fits, names, refused, no
 use Rattle.set.specs.Law.{Due}
 use Rattle.set.proofs.Fixing.{due_fixed}
 use Rattle.seasons.specs.Calls.{asked, behind, told}
-use Rattle.seasons.specs.Runs.{call_at, answer_at, past, Lawful, AnswersFixed}
+use Rattle.seasons.specs.Runs.{call_at, answer_at, past, Lawful, SameAnswers, AnswersFixed}
 use Rattle.seasons.specs.declared.call.Call.{Call}
 use Rattle.seasons.specs.declared.answer.Answer.{Answer}
 use Rattle.seasons.specs.declared.answer.Answer.TheVariants as answer
@@ -69,25 +69,22 @@ answer_told (answer.NotTaken s) = refl
 same_answer : (a b : Answer) → told a ≡ told b → a ≡ b
 same_answer a b e = sym (answer_told a) ∙ ap answer_of e ∙ answer_told b
 
-module _ {F : Type 0} (rules : F → List Rule) (l : ℕ) (calls : List (Call F)) (one two : List Answer) (lawful : Lawful rules l (length calls) calls one) (also : Lawful rules l (length calls) calls two) where
+module _ {F : Type 0} (rules : F → List Rule) (l n : ℕ) (calls : List (Call F)) (one two : List Answer) (lawful : Lawful rules l n calls one) (also : Lawful rules l n calls two) where
   -- the answer to a call, where the past is one
-  told_fixed : (k : ℕ) → k < length calls → past k calls one ≡ past k calls two → told (answer_at k one) ≡ told (answer_at k two)
+  told_fixed : (k : ℕ) → k < n → past k calls one ≡ past k calls two → told (answer_at k one) ≡ told (answer_at k two)
   told_fixed k small same =
       due_fixed (behind rules (call_at k calls)) l (past k calls one) (asked (call_at k calls)) _ _ (lawful k small)
       (subst (λ h. Due (behind rules (call_at k calls)) l h (asked (call_at k calls)) (told (answer_at k two))) (sym same) (also k small))
 
-  past_fixed : (k : ℕ) → k ≤ length calls → past k calls one ≡ past k calls two
+  past_fixed : (k : ℕ) → k ≤ n → past k calls one ≡ past k calls two
   past_fixed zero small = refl
   past_fixed (suc k) small =
       let same = past_fixed k (omega (arith, small)) in
       let answer = told_fixed k (omega (arith, small)) same in
       rw (same, answer) refl
 
-  pub answers_same : length one ≡ length calls → length two ≡ length calls → one ≡ two
-  answers_same long longer = same_lists one two (long ∙ sym longer) (λ k d h.
-      let small : k < length calls = omega (arith, h, long) in
-      let here : answer_at k one ≡ answer_at k two = same_answer _ _ (told_fixed k small (past_fixed k (omega (arith, small)))) in
-      get_or_default one k d answer.Granted h ∙ here ∙ sym (get_or_default two k d answer.Granted (omega (arith, small, longer))))
+  answers_same : SameAnswers n one two
+  answers_same k small = same_answer _ _ (told_fixed k small (past_fixed k (omega (arith, small))))
 
 pub answers_fixed : {F : Type 0} (rules : F → List Rule) (l : ℕ) (calls : List (Call F)) → AnswersFixed rules l calls
-answers_fixed rules l calls one two long longer lawful also = answers_same rules l calls one two lawful also long longer
+answers_fixed rules l calls n answers lawful other also = answers_same rules l n calls other answers also lawful

@@ -40,7 +40,7 @@ module _ {F : Type 0} (rules : F → List Rule) (first : List Part) (calls : Lis
     lawful_more : Lawful rules (length first) (n + 1) calls (set answers n a)
     lawful_more k small =
         ⊎_elim (λ e.
-        let due = (answered first (past n calls answers) run.leads).0 in
+        let due = (answered first (past n calls answers) run.leads).0.0 in
         rw (e, past_set n n a (omega arith), get_or-set_same answers n a answer.Granted within) due)
         (λ ne.
         rw (past_set k n a (omega (arith, small)), get_or-set_other answers n k a answer.Granted ne) (run.lawful k (omega (arith, small, ne))))

@@ -31,10 +31,17 @@ abbrev pub Lawful : {F : Type 0} → (F → List Rule) → ℕ → ℕ → List 
 Lawful rules l n calls answers =
     (k : ℕ) → k < n → Due (behind rules (call_at k calls)) l (past k calls answers) (asked (call_at k calls)) (told (answer_at k answers))
 
--- so the calls fix the answers: there are no others
+-- each of the first n answers is the same
+abbrev pub SameAnswers : ℕ → List Answer → List Answer → Type 0
+SameAnswers n one two = (k : ℕ) → k < n → answer_at k one ≡ answer_at k two
+
+-- the answers to the first n calls are the only lawful ones
+abbrev pub OnlyLawful : {F : Type 0} → (F → List Rule) → ℕ → ℕ → List (Call F) → List Answer → Type 0
+OnlyLawful rules l n calls answers = (other : List Answer) → Lawful rules l n calls other → SameAnswers n other answers
+
+-- so the law leaves no answer open, however many calls are run
 abbrev pub AnswersFixed : {F : Type 0} → (F → List Rule) → ℕ → List (Call F) → Type 0
-AnswersFixed rules l calls =
-    (one two : List Answer) → length one ≡ length calls → length two ≡ length calls → Lawful rules l (length calls) calls one → Lawful rules l (length calls) calls two → one ≡ two
+AnswersFixed rules l calls = (n : ℕ) (answers : List Answer) → Lawful rules l n calls answers → OnlyLawful rules l n calls answers
 
 -- the first n calls led to the set with this sheet and these slots, in the state s, by lawful answers
 pub record Runs {F : Type 0} (rules : F → List Rule) (first : List Part) (calls : List (Call F)) (answers : List Answer) (n : ℕ) (s : State) (sheet : List Part) (slots : List Slot) : Type 0 where

@@ -1,11 +1,11 @@
 //! A list of calls run on one set from blank.
 
-ghost use Rattle.std.specs.Prelude.{◌≡◌, ◌<◌, ◌≤◌, List, length, min};
+ghost use Rattle.std.specs.Prelude.{◌≡◌, ◌<◌, ◌≤◌, List, IfOk, OnErr, length, min};
 ghost use Rattle.parts.specs.declared.part.Part.{Part as PartOf};
 ghost use Rattle.set.specs.Histories.{StandsExactly};
 ghost use Rattle.set.specs.Leading.{Shows};
 ghost use Rattle.set.specs.declared.state.State.TheVariants.{DrawnUp as drawn_up, Issued as issued};
-ghost use Rattle.seasons.specs.Runs.{past, call_at, Lawful, AnswersFixed, Runs, Beyond};
+ghost use Rattle.seasons.specs.Runs.{past, call_at, Lawful, OnlyLawful, AnswersFixed, Runs, Beyond};
 ghost use Rattle.seasons.specs.declared.call.Call.TheVariants.{Issue, Recall};
 
 use crate::answer::Answer;
@@ -14,6 +14,7 @@ use crate::calling::{drawn_up_call, issued_call};
 use parts::part::Part;
 use rules::family::RuleFamily;
 use set::message_set::{DrawnUp, Issued};
+use std::alloc::{AllocError, Global};
 
 // Answers the calls from place `from` on, up to one that issues the set, or to `end`; gives
 // the place where it stopped.
@@ -99,7 +100,7 @@ fn run<'a, F: RuleFamily>(
 /// Runs as many of the calls as there are places for answers, in turn on one set, from blank
 /// over the sheet. The law of a whole season is its contract: each call is answered as is due
 /// after all that came before it, and the sheet holds exactly the models that stand at the end.
-/// Gives how many calls were run; the answers beyond stay.
+/// Gives how many calls were run; the answers beyond stay. `whole_season` has places for all.
 pub fn season<F: RuleFamily>(
     sheet: &mut [Part],
     calls: &[Call<'_, F>],
@@ -107,6 +108,7 @@ pub fn season<F: RuleFamily>(
 ) -> usize
     ensures count { result ≡ min (length calls.now) (length answers.old) }
     ensures law { Lawful F.rules (length sheet.old) result calls.now answers.new }
+    ensures only { OnlyLawful F.rules (length sheet.old) result calls.now answers.new }
     ensures shows { Shows sheet.old (past result calls.now answers.new) sheet.new }
     ensures beyond { Beyond result answers.old answers.new }
     ensures fixed { AnswersFixed F.rules (length sheet.old) calls.now }
@@ -115,4 +117,23 @@ pub fn season<F: RuleFamily>(
     let end = calls.len().min(answers.len());
     let _last = run(sheet, calls, answers, end);
     end
+}
+
+/// Runs all of the calls, in turn on one set, from blank over the sheet, by the same law, and
+/// gives an answer to each. Where there is no memory for the answers nothing is run, and the
+/// sheet stays as it is.
+pub fn whole_season<F: RuleFamily>(
+    heap: Global,
+    sheet: &mut [Part],
+    calls: &[Call<'_, F>],
+) -> Result<Vec<Answer>, AllocError>
+    ensures count { IfOk result (λ answers. length answers.items ≡ length calls.now) }
+    ensures law { IfOk result (λ answers. Lawful F.rules (length sheet.old) (length calls.now) calls.now answers.items) }
+    ensures only { IfOk result (λ answers. OnlyLawful F.rules (length sheet.old) (length calls.now) calls.now answers.items) }
+    ensures shows { IfOk result (λ answers. Shows sheet.old (past (length calls.now) calls.now answers.items) sheet.new) }
+    ensures unrun { OnErr result (sheet.new ≡ sheet.old) }
+{
+    let mut answers = vec![in heap; Answer::Granted; calls.len()]?;
+    season(sheet, calls, &mut answers);
+    Ok(answers)
 }

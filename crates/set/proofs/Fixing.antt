@@ -13,7 +13,7 @@ use Rattle.set.specs.Five.{five}
 use Rattle.set.specs.Histories.{Asked, Told, History, named, stands, state}
 use Rattle.set.specs.Histories.Asked.{declare, withdraw, issue, recall, compare, judge}
 use Rattle.set.specs.Histories.Told.{included, fits}
-use Rattle.set.specs.Law.{Ends, Granted, ModelIs, ComparedTo, JudgedBy, compare_asked, judge_asked, InDrawnUp, InIssued, Due}
+use Rattle.set.specs.Law.{Ends, Granted, Only, ModelIs, ComparedTo, JudgedBy, DeclareEnds, WithdrawEnds, CompareEnds, JudgeEnds, compare_asked, judge_asked, InDrawnUp, InIssued, Due}
 use Rattle.set.proofs.Standing.{same_parts}
 
 -- there is one such answer
@@ -60,12 +60,35 @@ module _ (was : Option (List Part)) (message : Message) where
       let at_t = subst (λ x. FirstIs (Breaks message) (five x) v′) (model_fixed was t′ t one′ one) first′ in
       is ∙ ap (named fits) (one_answer (Breaks message) (five t) v v′ first at_t) ∙ sym is′
 
+-- so what a call ends with is the only answer
+only : (Says : Told → Type 0) (told : Told) → Fixed Says → Says told → Only Says told
+only Says told fixed says = (says, λ other also. fixed other told also says)
+
+pub declare_only : (n : ℕ) (was : Option (List Part)) (m : ℕ) (ps : List Part) (told : Told) → DeclareEnds n was m ps told → Only (DeclareEnds n was m ps) told
+declare_only n was m ps told = only (DeclareEnds n was m ps) told (ends_fixed _ Granted granted_fixed)
+
+pub withdraw_only : (n : ℕ) (was : Option (List Part)) (m : ℕ) (told : Told) → WithdrawEnds n was m told → Only (WithdrawEnds n was m) told
+withdraw_only n was m told = only (WithdrawEnds n was m) told (ends_fixed _ Granted granted_fixed)
+
+compare_fixed : (behind : List Rule) (n : ℕ) (sent expected : Option (List Part)) (s e : ℕ) → Fixed (CompareEnds behind n sent expected s e)
+compare_fixed behind n sent expected s e = ends_fixed (compare_asked n sent expected s e) (Compares behind sent expected) (compares_fixed behind sent expected)
+
+pub compare_only : (behind : List Rule) (n : ℕ) (sent expected : Option (List Part)) (s e : ℕ) (told : Told) → CompareEnds behind n sent expected s e told → Only (CompareEnds behind n sent expected s e) told
+compare_only behind n sent expected s e told = only (CompareEnds behind n sent expected s e) told (compare_fixed behind n sent expected s e)
+
+judge_fixed : (n : ℕ) (was : Option (List Part)) (m : ℕ) (message : Message) → Fixed (JudgeEnds n was m message)
+judge_fixed n was m message = ends_fixed (judge_asked n was m message) (Judges was message) (judges_fixed was message)
+
+pub judge_only : (n : ℕ) (was : Option (List Part)) (m : ℕ) (message : Message) (told : Told) → JudgeEnds n was m message told → Only (JudgeEnds n was m message) told
+judge_only n was m message told = only (JudgeEnds n was m message) told (judge_fixed n was m message)
+
 pub due_fixed : (behind : List Rule) (n : ℕ) (h : History) (a : Asked) → Fixed (Due behind n h a)
 due_fixed behind n h (declare m ps) = drawn_up_fixed (state h) _ (ends_fixed _ Granted granted_fixed)
 due_fixed behind n h (withdraw m) = drawn_up_fixed (state h) _ (ends_fixed _ Granted granted_fixed)
 due_fixed behind n h issue = drawn_up_fixed (state h) Granted granted_fixed
 due_fixed behind n h recall = issued_fixed (state h) Granted granted_fixed
-due_fixed behind n h (compare s e) =
-    issued_fixed (state h) _ (ends_fixed (compare_asked n (stands h s) (stands h e) s e) (Compares behind (stands h s) (stands h e)) (compares_fixed behind (stands h s) (stands h e)))
-due_fixed behind n h (judge m message) =
-    issued_fixed (state h) _ (ends_fixed (judge_asked n (stands h m) m message) (Judges (stands h m) message) (judges_fixed (stands h m) message))
+due_fixed behind n h (compare s e) = issued_fixed (state h) _ (compare_fixed behind n (stands h s) (stands h e) s e)
+due_fixed behind n h (judge m message) = issued_fixed (state h) _ (judge_fixed n (stands h m) m message)
+
+pub due_only : (behind : List Rule) (n : ℕ) (h : History) (a : Asked) (told : Told) → Due behind n h a told → Only (Due behind n h a) told
+due_only behind n h a told = only (Due behind n h a) told (due_fixed behind n h a)

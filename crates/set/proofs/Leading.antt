@@ -17,12 +17,13 @@ use Rattle.store.specs.declared.slot.Slot.{Slot}
 use Rattle.store.specs.declared.slot.Slot.TheVariants.{Free, Declared}
 use Rattle.store.proofs.Writes.{numbered_means, length_written, own_window, other_window, own_model, model_written, model_free}
 use Rattle.set.specs.declared.state.State.{State}
-use Rattle.set.specs.Histories.{Told, Event, History, granted_told, is_granted, stands, state}
+use Rattle.set.specs.Histories.{Asked, Told, Event, History, granted_told, is_granted, stands, state}
 use Rattle.set.specs.declared.state.State.TheVariants.{DrawnUp, Issued}
 use Rattle.set.specs.Histories.Asked.{declare, withdraw, compare, judge}
 use Rattle.set.specs.Histories.Told.{granted}
-use Rattle.set.specs.Law.{Ends, Granted, DeclareEnds, WithdrawEnds, CompareEnds, JudgeEnds, InDrawnUp, InIssued}
+use Rattle.set.specs.Law.{Ends, Granted, Due, DeclareEnds, WithdrawEnds, CompareEnds, JudgeEnds, InDrawnUp, InIssued}
 use Rattle.set.specs.Leading.{shown, Leads, Steps, Leaves}
+use Rattle.set.proofs.Fixing.{due_only}
 use Rattle.set.specs.Questions.{first_no, fault_told, number_question, table_question, free_question, declared_question}
 
 -- a stretch of a list of one element
@@ -83,6 +84,13 @@ module _ (first : List Part) (h : History) (s : State) (sheet : List Part) (slot
             unaltered = λ other. absurd (other (sym led.shows.size ∙ long));
           };
         }
+
+-- where an answer is due it is the only one
+module _ (behind : List Rule) (asked : Asked) (told : Told) (s s′ : State) (sheet sheet′ : List Part) (slots slots′ : List Slot) where
+  pub steps_only : ((first : List Part) (h : History) → Leads first h s sheet slots
+      → Due behind (length first) h asked told × Leads first (record { asked = asked; told = told } ∷ h) s′ sheet′ slots′)
+      → Steps behind asked told s sheet slots s′ sheet′ slots′
+  steps_only steps first h led = let (due, leads) = steps first h led in (due_only behind (length first) h asked told due, leads)
 
 -- the questions of a granted call all got a yes
 ended_granted : (q : Option Notice) → Ends q Granted granted → q ≡ None
@@ -151,36 +159,36 @@ module _ (sheet sheet′ : List Part) (slots slots′ : List Slot) (full : lengt
   pub declare_steps : (ps : List Part) (r : Result (Unit {0}) Refusal) → DeclareEnds (length sheet) (model_at sheet slots m) m ps (granted_told r)
       → Leaves m ps (Declared (length ps)) r sheet slots sheet′ slots′
       → Steps [] (declare m ps) (granted_told r) DrawnUp sheet slots DrawnUp sheet′ slots′
-  declare_steps ps r answer leaves first h led = (
+  declare_steps ps r answer leaves = steps_only [] (declare m ps) (granted_told r) DrawnUp DrawnUp sheet sheet′ slots slots′ (λ first h led. (
     taken_drawn_up first h DrawnUp sheet slots led (DeclareEnds (length first) (stands h m) m ps) (granted_told r)
         (by_history first h DrawnUp sheet slots led (λ n was. DeclareEnds n was m ps (granted_told r)) m answer) refl,
     declared_leads ps r answer leaves first h led,
-  )
+  ))
 
   pub withdraw_steps : (r : Result (Unit {0}) Refusal) → WithdrawEnds (length sheet) (model_at sheet slots m) m (granted_told r)
       → Leaves m [] Free r sheet slots sheet′ slots′
       → Steps [] (withdraw m) (granted_told r) DrawnUp sheet slots DrawnUp sheet′ slots′
-  withdraw_steps r answer leaves first h led = (
+  withdraw_steps r answer leaves = steps_only [] (withdraw m) (granted_told r) DrawnUp DrawnUp sheet sheet′ slots slots′ (λ first h led. (
     taken_drawn_up first h DrawnUp sheet slots led (WithdrawEnds (length first) (stands h m) m) (granted_told r)
         (by_history first h DrawnUp sheet slots led (λ n was. WithdrawEnds n was m (granted_told r)) m answer) refl,
     withdrawn_leads r answer leaves first h led,
-  )
+  ))
 
 module _ (sheet : List Part) (slots : List Slot) where
   -- a compare and a judge alter nothing
   pub compare_steps : (behind : List Rule) (s e : ℕ) (told : Told) → CompareEnds behind (length sheet) (model_at sheet slots s) (model_at sheet slots e) s e told
       → Steps behind (compare s e) told Issued sheet slots Issued sheet slots
-  compare_steps behind s e told answer first h led =
+  compare_steps behind s e told answer = steps_only behind (compare s e) told Issued Issued sheet sheet slots slots (λ first h led.
       let sent_stands = subst (λ was. CompareEnds behind (length sheet) was (model_at sheet slots e) s e told) (led.models s) answer in (
         taken_issued first h Issued sheet slots led (CompareEnds behind (length first) (stands h s) (stands h e) s e) told
             (by_history first h Issued sheet slots led (λ n was. CompareEnds behind n (stands h s) was s e told) e sent_stands) refl,
         leads_same first h Issued sheet slots led _ Issued led.state_is (λ m. refl),
-      )
+      ))
 
   pub judge_steps : (m : ℕ) (message : Message) (told : Told) → JudgeEnds (length sheet) (model_at sheet slots m) m message told
       → Steps [] (judge m message) told Issued sheet slots Issued sheet slots
-  judge_steps m message told answer first h led = (
+  judge_steps m message told answer = steps_only [] (judge m message) told Issued Issued sheet sheet slots slots (λ first h led. (
     taken_issued first h Issued sheet slots led (JudgeEnds (length first) (stands h m) m message) told
         (by_history first h Issued sheet slots led (λ n was. JudgeEnds n was m message told) m answer) refl,
     leads_same first h Issued sheet slots led _ Issued led.state_is (λ i. refl),
-  )
+  ))

@@ -24,6 +24,10 @@ Ends None Says told = Says told
 abbrev pub Granted : Told → Type 0
 Granted told = told ≡ granted
 
+-- the answer is as is said, and no other answer is
+abbrev pub Only : (Told → Type 0) → Told → Type 0
+Only Says told = Says told × ((other : Told) → Says other → other ≡ told)
+
 -- the parts that stand are those of a model, whose tree is t
 abbrev pub ModelIs : Option (List Part) → Tree → Type 0
 ModelIs was t = (ps : List Part) × (was ≡ Some ps) × (table_answer ps ≡ Ok t)

@@ -7,7 +7,7 @@ use Rattle.store.specs.Windows.{window, padded, written, model_at}
 use Rattle.store.specs.declared.slot.Slot.{Slot}
 use Rattle.set.specs.declared.state.State.{State}
 use Rattle.set.specs.Histories.{Asked, Told, History, stands, state}
-use Rattle.set.specs.Law.{Due}
+use Rattle.set.specs.Law.{Only, Due}
 
 -- what the window of a number holds: the model that stands, followed by blank parts
 abbrev pub shown : Option (List Part) → List Part
@@ -26,11 +26,11 @@ pub record Leads (first : List Part) (h : History) (s : State) (sheet : List Par
   pub models : (m : ℕ) → model_at sheet slots m ≡ stands h m
   pub shows : Shows first h sheet
 
--- whatever led to the set before the call, the answer is lawful, and with it the history leads to the set after the call
+-- whatever led to the set before the call, the answer is the only one that is due, and with it the history leads to the set after the call
 abbrev pub Steps : List Rule → Asked → Told → State → List Part → List Slot → State → List Part → List Slot → Type 0
 Steps behind asked told s sheet slots s′ sheet′ slots′ =
     (first : List Part) (h : History) → Leads first h s sheet slots
-    → Due behind (length first) h asked told × Leads first (record { asked = asked; told = told } ∷ h) s′ sheet′ slots′
+    → Only (Due behind (length first) h asked) told × Leads first (record { asked = asked; told = told } ∷ h) s′ sheet′ slots′
 
 -- what a granted call leaves in the window and the slot of the number m; a refused one leaves all as it was
 abbrev pub Leaves : ℕ → List Part → Slot → Result (Unit {0}) Refusal → List Part → List Slot → List Part → List Slot → Type 0

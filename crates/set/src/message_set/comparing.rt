@@ -9,7 +9,7 @@ ghost use Rattle.set.specs.Histories.Asked.{compare as comparing, judge as judgi
 ghost use Rattle.set.specs.declared.state.State.TheVariants.{DrawnUp as drawn_up, Issued as issued};
 ghost use Rattle.set.specs.Histories.Told.{granted, included, fits};
 ghost use Rattle.set.specs.Keeping.{Found};
-ghost use Rattle.set.specs.Law.{CompareEnds, JudgeEnds};
+ghost use Rattle.set.specs.Law.{Only, CompareEnds, JudgeEnds};
 ghost use Rattle.set.specs.Leading.{Steps};
 ghost use Rattle.set.specs.Worked.{WorkedPairs};
 
@@ -64,7 +64,7 @@ impl<'a> Issued<'a> {
         expected: u32,
         behind: &F,
     ) -> Result<Option<Verdict>, Refusal>
-        ensures answer { CompareEnds (F.rules behind.now) (length self.now.sheet.now) (model_at self.now.sheet.now self.now.slots.at sent) (model_at self.now.sheet.now self.now.slots.at expected) sent expected (verdict_told included result) }
+        ensures answer { Only (CompareEnds (F.rules behind.now) (length self.now.sheet.now) (model_at self.now.sheet.now self.now.slots.at sent) (model_at self.now.sheet.now self.now.slots.at expected) sent expected) (verdict_told included result) }
         ensures law { Steps (F.rules behind.now) (comparing sent expected) (verdict_told included result) issued self.now.sheet.now self.now.slots.at issued self.now.sheet.now self.now.slots.at }
         ensures exact { FiveInclude }
         ensures worked { WorkedPairs }
@@ -76,7 +76,7 @@ impl<'a> Issued<'a> {
 
     /// The first rule of the model at a number that the message breaks; none where it fits.
     pub fn judge(&self, number: u32, message: &[u32]) -> Result<Option<Verdict>, Refusal>
-        ensures answer { JudgeEnds (length self.now.sheet.now) (model_at self.now.sheet.now self.now.slots.at number) number message.now (verdict_told fits result) }
+        ensures answer { Only (JudgeEnds (length self.now.sheet.now) (model_at self.now.sheet.now self.now.slots.at number) number message.now) (verdict_told fits result) }
         ensures law { Steps [] (judging number message.now) (verdict_told fits result) issued self.now.sheet.now self.now.slots.at issued self.now.sheet.now self.now.slots.at }
         ensures exact { FiveExact × FiveFit }
         ensures values { ValuesTell }

@@ -9,7 +9,7 @@ ghost use Rattle.set.specs.Histories.Asked.{declare as declaring, withdraw as wi
 ghost use Rattle.set.specs.declared.state.State.TheVariants.{DrawnUp as drawn_up, Issued as issued};
 ghost use Rattle.set.specs.Histories.Told.{granted};
 ghost use Rattle.set.specs.Keeping.{Found};
-ghost use Rattle.set.specs.Law.{DeclareEnds, WithdrawEnds};
+ghost use Rattle.set.specs.Law.{Only, DeclareEnds, WithdrawEnds};
 ghost use Rattle.set.specs.Leading.{Leads, Leaves, Steps};
 
 use super::keeping::{clear, find, keep};
@@ -46,7 +46,7 @@ impl<'a> DrawnUp<'a> {
 
     /// Declares the model of the parts at a free number.
     pub fn declare(&mut self, number: u32, parts: &[Part]) -> Result<(), Refusal>
-        ensures answer { DeclareEnds (length self.old.sheet.now) (model_at self.old.sheet.now self.old.slots.at number) number parts.now (granted_told result) }
+        ensures answer { Only (DeclareEnds (length self.old.sheet.now) (model_at self.old.sheet.now self.old.slots.at number) number parts.now) (granted_told result) }
         ensures leaves { Leaves number parts.now (Declared (length parts.now)) result self.old.sheet.now self.old.slots.at self.new.sheet.now self.new.slots.at }
         ensures lender { self.new.sheet.ghost_name ≡ self.old.sheet.ghost_name }
         ensures law { Steps [] (declaring number parts.now) (granted_told result) drawn_up self.old.sheet.now self.old.slots.at drawn_up self.new.sheet.now self.new.slots.at }
@@ -61,7 +61,7 @@ impl<'a> DrawnUp<'a> {
 
     /// Takes the model at a number out of the set.
     pub fn withdraw(&mut self, number: u32) -> Result<(), Refusal>
-        ensures answer { WithdrawEnds (length self.old.sheet.now) (model_at self.old.sheet.now self.old.slots.at number) number (granted_told result) }
+        ensures answer { Only (WithdrawEnds (length self.old.sheet.now) (model_at self.old.sheet.now self.old.slots.at number) number) (granted_told result) }
         ensures leaves { Leaves number [] Free result self.old.sheet.now self.old.slots.at self.new.sheet.now self.new.slots.at }
         ensures lender { self.new.sheet.ghost_name ≡ self.old.sheet.ghost_name }
         ensures law { Steps [] (withdrawing number) (granted_told result) drawn_up self.old.sheet.now self.old.slots.at drawn_up self.new.sheet.now self.new.slots.at }

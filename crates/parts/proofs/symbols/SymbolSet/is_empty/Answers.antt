@@ -1,6 +1,5 @@
-use Rattle.std.proofs.Common.{rules}
-use Rattle.parts.proofs.SymbolSets.{empty_is}
+use Rattle.parts.proofs.Sizes.{empty_by_size}
 use Rattle.parts.proofs.symbols.SymbolSet.is_empty.Goals as goal
 
 pub returns : goal.returns
-returns c = empty_is c.args.self.now.bits (search rules)
+returns c = rw c.len.ensures (empty_by_size c.args.self.now.bits)
