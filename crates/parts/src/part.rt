@@ -15,7 +15,7 @@ pub const MOST_PARTS: usize = 256;
 /// One row of a sheet. Each field takes any number, so that a bad table can be
 /// written down and refused; so the kind is a number and no enum (docs/DECISIONS.md,
 /// "Fields of a part are `u32`"). docs/MODELS.md says what each kind means.
-#[derive(Clone, Copy)]
+#[derive(Clone, Copy, PartialEq, Eq)]
 pub struct Part {
     /// 0 empty, 1 symbol, 2 choice, 3 sequence, 4 interleave, 5 count, 6 nonempty
     pub kind: u32,

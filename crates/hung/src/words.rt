@@ -1,20 +1,18 @@
 //! How a call is written: its words as in a script, and what is hung behind it.
 
+use crate::families::{Family, name_of};
 use parts::part::Part;
 use seasons::call::Call;
 use std::fmt;
 
-/// A call to be printed, with the words for the family that some of its season's compares
-/// have behind them.
-#[derive_where(Clone, Copy)]
-pub(crate) struct Words<'a, 'c, F> {
-    pub(crate) call: &'a Call<'c, F>,
-    pub(crate) family: &'a str,
+/// A call to be printed.
+#[derive(Clone, Copy)]
+pub(crate) struct Words<'a, 'c> {
+    pub(crate) call: &'a Call<'c, Family>,
 }
 
-impl<F> fmt::Display for Words<'_, '_, F> {
+impl fmt::Display for Words<'_, '_> {
     fn fmt<W: fmt::Write>(&self, f: &mut fmt::Formatter<W>) -> fmt::Result {
-        let family = self.family;
         match self.call {
             Call::Issue => f.write_str("issue"),
             Call::Recall => f.write_str("recall"),
@@ -34,7 +32,10 @@ impl<F> fmt::Display for Words<'_, '_, F> {
             } => {
                 write!(f, "compare {sent} {expected}")?;
                 match behind {
-                    Some(_) => write!(f, ", {family} behind"),
+                    Some(family) => {
+                        let name = name_of(family);
+                        write!(f, ", {name} behind")
+                    }
                     None => Ok(()),
                 }
             }
