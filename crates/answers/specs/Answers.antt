@@ -17,7 +17,7 @@ use Rattle.answers.specs.declared.facts.Facts.{Facts}
 use Rattle.answers.specs.declared.reply.Reply.{Reply}
 use Rattle.answers.specs.declared.reply.Reply.TheVariants as reply
 use Rattle.script.specs.declared.call.Call.{Call}
-use Rattle.script.specs.declared.call.Call.TheVariants.{Check, Ask, Declare, Withdraw, Issue, Recall, Compare, Judge}
+use Rattle.script.specs.declared.call.Call.TheVariants.{Table, Ask, Declare, Withdraw, Issue, Recall, Compare, Judge}
 use Rattle.script.specs.declared.question.Question.{Question}
 use Rattle.script.specs.declared.question.Question.TheVariants.{Every, Occurs, Brings, After}
 
@@ -45,7 +45,7 @@ Described ps t r = (facts : Facts) × (r ≡ reply.Model facts) × FactsOf ps t 
 
 -- the answer to a call about a table; a call of a message set has none here
 abbrev pub CallAnswered : Call → Option (Result Reply Refusal) → Type 0
-CallAnswered (Check parts) a = IsSomeAnd a (Answered (vec_items parts) (Described (vec_items parts)))
+CallAnswered (Table parts) a = IsSomeAnd a (Answered (vec_items parts) (Described (vec_items parts)))
 CallAnswered (Ask question parts) a = IsSomeAnd a (Answered (vec_items parts) (Replied question))
 CallAnswered (Declare number parts) a = a ≡ None
 CallAnswered (Withdraw number) a = a ≡ None

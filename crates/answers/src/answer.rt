@@ -31,7 +31,7 @@ pub fn answer_call(call: &Call) -> Option<Result<Reply, Refusal>>
 {
     // no table: each call holds other things
     match call {
-        Call::Check { parts } => Some(describe(parts.as_slice())),
+        Call::Table { parts } => Some(describe(parts.as_slice())),
         Call::Ask { question, parts } => Some(reply(parts.as_slice(), *question)),
         Call::Declare { .. }
         | Call::Withdraw { .. }

@@ -13,7 +13,7 @@ use Rattle.seasons.specs.declared.call.Call.TheVariants as call
 use Rattle.seasons.specs.declared.answer.Answer.{Answer}
 use Rattle.seasons.specs.declared.answer.Answer.TheVariants as answer
 use Rattle.script.specs.declared.call.Call.{Call}
-use Rattle.script.specs.declared.call.Call.TheVariants.{Check, Ask, Declare, Withdraw, Issue, Recall, Compare, Judge}
+use Rattle.script.specs.declared.call.Call.TheVariants.{Table, Ask, Declare, Withdraw, Issue, Recall, Compare, Judge}
 use Rattle.seasons.specs.Texts.{told_said}
 use Rattle.parts.specs.declared.refusal.Refusal.{Refusal}
 use Rattle.models.proofs.Unlike.{some-none}
@@ -87,7 +87,7 @@ said_both (e ∷ es) fs h mid h′ a b (first, others, next, cut, one, more) giv
 
 -- which calls are those of a table, and which of the set
 pub is_table : (call : Call) (answer : Result Reply Refusal) → CallAnswered call (Some answer) → asked_of call ≡ None
-is_table (Check parts) answer given = refl
+is_table (Table parts) answer given = refl
 is_table (Ask question parts) answer given = refl
 is_table (Declare number parts) answer given = absurd (some-none answer given)
 is_table (Withdraw number) answer given = absurd (some-none answer given)
@@ -97,7 +97,7 @@ is_table (Compare sent expected) answer given = absurd (some-none answer given)
 is_table (Judge number message) answer given = absurd (some-none answer given)
 
 pub is_of_set : (call : Call) → CallAnswered call None → (a : Asked) × (asked_of call ≡ Some a)
-is_of_set (Check parts) given = absurd given
+is_of_set (Table parts) given = absurd given
 is_of_set (Ask question parts) given = absurd given
 is_of_set (Declare number parts) given = (_, refl)
 is_of_set (Withdraw number) given = (_, refl)

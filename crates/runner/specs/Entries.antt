@@ -1,8 +1,9 @@
 -- What calls the lines of a script make. Assumes nothing.
-use Rattle.std.specs.Prelude.{◌≡◌, ℕ, ◌+◌, ◌⊎◌, List, [], ◌∷◌, ◌++◌, length, Some, None, Ok, Err, string_bytes, Result}
+use Rattle.std.specs.Prelude.{◌≡◌, ℕ, ◌+◌, ◌⊎◌, ◌≢◌, List, [], ◌∷◌, ◌++◌, length, Some, None, Ok, Err, string_bytes, Result}
 use Rattle.script.specs.Complaints.{complaint}
 use Rattle.script.specs.Lines.{LineRead}
 use Rattle.script.specs.declared.error.LineError.{LineError}
+use Rattle.script.specs.declared.error.LineError.TheVariants.{Memory}
 use Rattle.runner.specs.declared.entry.Entry.{Entry}
 use Rattle.runner.specs.declared.failure.Failure.{Failure}
 use Rattle.runner.specs.declared.failure.Failure.TheVariants.{TooManyArguments, BadFile, BadInput, BadLine, Io}
@@ -18,9 +19,9 @@ EntriesAre (line ∷ lines) es =
 abbrev pub Entered : List (List ℕ) → List Entry → List Entry → Type 0
 Entered lines old new = (es : List Entry) × EntriesAre lines es × (new ≡ old ++ es)
 
--- the line is no call, and the reason says what is wrong with it
+-- the line is no call, and the reason says what is wrong with it, which is not that memory ran out
 abbrev pub IsBad : List ℕ → List ℕ → Type 0
-IsBad line reason = (error : LineError) × LineRead line (Err error) × (reason ≡ complaint error)
+IsBad line reason = (error : LineError) × (error ≢ Memory) × LineRead line (Err error) × (reason ≡ complaint error)
 
 -- what a line makes is added, or it is bad and nothing is
 abbrev pub LineEntered : ℕ → List ℕ → List Entry → List Entry → Result (Unit {0}) Failure → Type 0

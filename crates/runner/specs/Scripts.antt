@@ -13,7 +13,7 @@ use Rattle.seasons.specs.Texts.{told_said}
 use Rattle.script.specs.Lines.{LineRead}
 use Rattle.script.specs.Words.{Begins}
 use Rattle.script.specs.declared.call.Call.{Call}
-use Rattle.script.specs.declared.call.Call.TheVariants.{Check, Ask, Declare, Withdraw, Issue, Recall, Compare, Judge}
+use Rattle.script.specs.declared.call.Call.TheVariants.{Table, Ask, Declare, Withdraw, Issue, Recall, Compare, Judge}
 use Rattle.answers.specs.Answers.{CallAnswered}
 use Rattle.answers.specs.Texts.{reply_said}
 use Rattle.answers.specs.declared.reply.Reply.{Reply}
@@ -31,7 +31,7 @@ spaced ws = join_by (λ w. w) (codes " ") ws
 
 -- what a call asks of the message set, if it asks of that
 abbrev pub asked_of : Call → Option Asked
-asked_of (Check parts) = None
+asked_of (Table parts) = None
 asked_of (Ask question parts) = None
 asked_of (Declare number parts) = Some (declare number (vec_items parts))
 asked_of (Withdraw number) = Some (withdraw number)

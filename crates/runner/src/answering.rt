@@ -1,6 +1,5 @@
 //! What is written for a script: an answer to each of its calls, line after line.
-ghost use Rattle.std.specs.Prelude.{◌≡◌, [], length, IfOk, MatchResult};
-ghost use Rattle.seasons.specs.Runs.{Lawful};
+ghost use Rattle.std.specs.Prelude.{MatchResult};
 ghost use Rattle.std.specs.Str.Lines.{lines};
 ghost use Rattle.runner.specs.Failures.{IsIo};
 ghost use Rattle.runner.specs.Scripts.{ScriptWritten};
@@ -11,11 +10,8 @@ use crate::entry::{Entry, read_entries};
 use crate::failure::Failure;
 use crate::writing::write_entries;
 use parts::part::Part;
-use rules::none::NoRules;
-use seasons::answer::Answer;
-use seasons::call::Call as SetCall;
-use seasons::season::season;
-use std::alloc::{AllocError, Global};
+use seasons::season::whole_season;
+use std::alloc::Global;
 use std::io;
 use store::windows::SHEET_PARTS;
 
@@ -42,21 +38,7 @@ fn answer_entries<W: io::Write>(
 {
     let calls = set_calls(heap, entries)?;
     let mut sheet = vec![in heap; Part::BLANK; SHEET_PARTS]?;
-    let answers = set_answers(heap, sheet.as_mut_slice(), calls.as_slice())?;
+    let answers = whole_season(heap, sheet.as_mut_slice(), calls.as_slice())?;
     write_entries(entries, answers.as_slice(), out)?;
     Ok(())
-}
-
-// What a set over the sheet answers to the calls, from blank: one answer to each.
-fn set_answers(
-    heap: Global,
-    sheet: &mut [Part],
-    calls: &[SetCall<'_, NoRules>],
-) -> Result<Vec<Answer>, AllocError>
-    ensures each { IfOk result (λ answers. length answers.items ≡ length calls.now) }
-    ensures law { IfOk result (λ answers. Lawful (λ _. []) (length sheet.old) (length calls.now) calls.now answers.items) }
-{
-    let mut answers = vec![in heap; Answer::Granted; calls.len()]?;
-    season(sheet, calls, &mut answers);
-    Ok(answers)
 }

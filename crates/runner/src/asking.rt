@@ -14,7 +14,7 @@ fn set_call<'c>(call: &'c Call) -> Option<SetCall<'c, NoRules>>
     ensures { SetCallIs call.now result }
 {
     match call {
-        Call::Check { .. } | Call::Ask { .. } => None,
+        Call::Table { .. } | Call::Ask { .. } => None,
         Call::Declare { number, parts } => Some(SetCall::Declare {
             number: *number,
             parts: parts.as_slice(),

@@ -4,7 +4,8 @@ ghost use Rattle.runner.specs.Entries.{LineEntered, ScriptEntered};
 
 use crate::failure::Failure;
 use script::call::Call;
-use std::alloc::Global;
+use script::error::LineError;
+use std::alloc::{AllocError, Global};
 
 /// A line that makes a call, with the call.
 #[derive(Drop)]
@@ -27,7 +28,7 @@ pub(crate) fn read_entries<'a>(
     Ok(())
 }
 
-// Adds what a line makes.
+// Adds what a line makes. Want of memory is no fault of the line, and ends the run as such.
 fn read_line<'a>(
     heap: Global,
     number: usize,
@@ -42,6 +43,7 @@ fn read_line<'a>(
             entries.push(Entry { line, call })?;
             Ok(())
         }
+        Err(LineError::Memory) => Err(Failure::from(AllocError)),
         Err(error) => {
             let reason = format!(in heap; "{error}")?;
             Err(Failure::BadLine { number, reason })

@@ -34,20 +34,20 @@ mod tests {
     #[test]
     fn a_line_that_is_no_call(rt: HostRuntime) -> Result<(), Fail> {
         let mut out = Vec::new(rt.alloc());
-        let text = "check\nchek 1:0:0:0\ncheck 1:0:0:0\n";
+        let text = "table\ncheck 1:0:0:0\ntable 1:0:0:0\n";
         match answer_script(rt.alloc(), text, &mut out) {
             Err(Failure::BadLine { number, reason }) => {
                 assert_eq!(rt; number, 2);
                 assert_eq!(rt;
                     reason.as_str(),
-                    "no such call: chek (calls: check, ask, declare, withdraw, issue, recall, compare, judge)"
+                    "no such call: check (calls: table, ask, declare, withdraw, issue, recall, compare, judge)"
                 );
             }
             _ => return Err("no bad line".into()),
         }
         assert_eq!(rt;
             out.as_slice(),
-            "check: refused 4, set, place 0\n".as_bytes()
+            "table: refused 4, set, place 0\n".as_bytes()
         );
         Ok(())
     }

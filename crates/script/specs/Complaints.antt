@@ -10,7 +10,7 @@ word_or_end None = codes "the end of the line"
 word_or_end (Some word) = word.now
 
 abbrev pub complaint : LineError → List ℕ
-complaint (NoSuchCall name) = codes "no such call: " ++ (name.now ++ codes " (calls: check, ask, declare, withdraw, issue, recall, compare, judge)")
+complaint (NoSuchCall name) = codes "no such call: " ++ (name.now ++ codes " (calls: table, ask, declare, withdraw, issue, recall, compare, judge)")
 complaint (NoSuchQuestion name) = codes "expected a question (every, occurs, brings, after), and not: " ++ word_or_end name
 complaint (NotSet word) = codes "expected a set of symbols, as 0,1 or -, and not: " ++ word_or_end word
 complaint (NotSymbol word) = codes "expected a symbol, and not: " ++ word_or_end word

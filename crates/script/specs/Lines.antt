@@ -3,7 +3,7 @@ use Rattle.std.specs.Prelude.{◌≡◌, ℕ, ◌+◌, ◌⊎◌, List, [], ◌�
 use Rattle.std.specs.Borrow.{Bor}
 use Rattle.parts.specs.declared.part.Part.{Part}
 use Rattle.script.specs.declared.call.Call.{Call}
-use Rattle.script.specs.declared.call.Call.TheVariants.{Check, Ask, Declare, Withdraw, Issue, Recall, Compare, Judge}
+use Rattle.script.specs.declared.call.Call.TheVariants.{Table, Ask, Declare, Withdraw, Issue, Recall, Compare, Judge}
 use Rattle.script.specs.declared.error.LineError.{LineError}
 use Rattle.script.specs.declared.error.LineError.TheVariants.{NoSuchCall, NotSymbol, NotPart, NotNumber, NotEnd, Memory}
 use Rattle.script.specs.declared.question.Question.{Question}
@@ -92,7 +92,7 @@ NotNumberThen Wrong bs e = NoNumber bs e ⊎ ((n : ℕ) × (rest : List ℕ) × 
 -- no call has this name
 abbrev pub Uncalled : List ℕ → Type 0
 Uncalled name =
-    (name ≢ codes "check") ×
+    (name ≢ codes "table") ×
     (name ≢ codes "ask") ×
     (name ≢ codes "declare") ×
     (name ≢ codes "withdraw") ×
@@ -103,7 +103,7 @@ Uncalled name =
 
 -- the call that a name and the words of bs after it say, or what is wrong with them
 abbrev pub CallRead : List ℕ → List ℕ → Result Call LineError → Type 0
-CallRead name bs (Ok (Check parts)) = (name ≡ codes "check") × AllParts bs (vec_items parts)
+CallRead name bs (Ok (Table parts)) = (name ≡ codes "table") × AllParts bs (vec_items parts)
 CallRead name bs (Ok (Ask q parts)) = (name ≡ codes "ask") × AllAsk bs q (vec_items parts)
 CallRead name bs (Ok (Declare number parts)) = (name ≡ codes "declare") × NumberThen bs number (λ rest. AllParts rest (vec_items parts))
 CallRead name bs (Ok (Withdraw number)) = (name ≡ codes "withdraw") × NumberThen bs number NoWord
@@ -112,7 +112,7 @@ CallRead name bs (Ok Recall) = (name ≡ codes "recall") × NoWord bs
 CallRead name bs (Ok (Compare sent expected)) = (name ≡ codes "compare") × NumberThen bs sent (λ rest. NumberThen rest expected NoWord)
 CallRead name bs (Ok (Judge number message)) = (name ≡ codes "judge") × NumberThen bs number (λ rest. AllSymbols rest (vec_items message))
 CallRead name bs (Err e) =
-    (name ≡ codes "check") × NotParts bs e ⊎
+    (name ≡ codes "table") × NotParts bs e ⊎
     (name ≡ codes "ask") × NotAsk bs e ⊎
     (name ≡ codes "declare") × NotNumberThen NotParts bs e ⊎
     (name ≡ codes "withdraw") × NotNumberThen NotEnded bs e ⊎

@@ -16,8 +16,8 @@ use std::alloc::Global;
 /// its line in a definition: `CallRead` and `Uncalled`, `complaint`, `CallAnswered`, `asked_of`.
 #[derive(Drop)]
 pub enum Call {
-    /// Check parts as a model.
-    Check {
+    /// Check parts as a model, and say what it is.
+    Table {
         parts: Vec<Part>,
     },
     /// Ask something of the model of parts.
@@ -71,9 +71,9 @@ impl Call {
     {
         // no table: each call reads other words
         match name {
-            "check" => {
+            "table" => {
                 let parts = reader.rest()?;
-                Ok(Call::Check { parts })
+                Ok(Call::Table { parts })
             }
             "ask" => {
                 let (question, parts) = question_and_parts(reader)?;

@@ -45,7 +45,7 @@ impl fmt::Display for LineError<'_> {
             LineError::NoSuchCall { name } => {
                 write!(
                     f,
-                    "no such call: {name} (calls: check, ask, declare, withdraw, issue, recall, compare, judge)"
+                    "no such call: {name} (calls: table, ask, declare, withdraw, issue, recall, compare, judge)"
                 )
             }
             LineError::NoSuchQuestion { name } => {

@@ -33,7 +33,7 @@ calls of an issued set:
   recall                  from now on the set is drawn up
 
 calls about a table, at any time:
-  check PART..            is it a model; its symbols, whether the empty message
+  table PART..            is it a model; its symbols, whether the empty message
                           fits, its first conflict
   ask QUESTION : PART..   a question about all messages of the model
 
