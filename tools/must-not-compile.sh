@@ -38,7 +38,7 @@ add_programs() {
     for file in "$root"/must-not-compile/*.rt.txt; do
         name=$(basename "$file" .rt.txt | tr - _)
         { mkdir -p "$work/crates/$name/src" && cp "$file" "$work/crates/$name/src/main.rt"; } || exit 1
-        echo "$name: parts models rules set" >>"$work/crates.txt"
+        echo "$name: parts models store rules set" >>"$work/crates.txt"
         names="$names $name"
     done
 }
@@ -53,9 +53,9 @@ try_all() {
     running=
 }
 
-# Whether the program was refused with this error and no other.
+# Whether the program was refused with this error, maybe in several places, and with no other.
 is_refused() {
-    [ "$(grep -c ': error' "$work/$1.said")" = 1 ] && grep -F ': error' "$work/$1.said" | grep -qF -e "$2"
+    grep -F ': error' "$work/$1.said" >"$work/errors" && ! grep -qvF -e "$2" "$work/errors"
 }
 
 # Says whether what became of a program is what its first line tells.

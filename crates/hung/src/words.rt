@@ -22,8 +22,8 @@ impl fmt::Display for Words<'_, '_> {
                 write_parts(parts, f)
             }
             Call::Judge { number, message } => {
-                write!(f, "judge {number}")?;
-                write_symbols(message, f)
+                let symbols = Symbols { message };
+                write!(f, "judge {number}{symbols}")
             }
             Call::Compare {
                 sent,
@@ -54,9 +54,17 @@ fn write_parts<W: fmt::Write>(parts: &[Part], f: &mut fmt::Formatter<W>) -> fmt:
     Ok(())
 }
 
-fn write_symbols<W: fmt::Write>(message: &[u32], f: &mut fmt::Formatter<W>) -> fmt::Result {
-    for symbol in message {
-        write!(f, " {symbol}")?;
+/// The symbols of a message, to be printed with a space before each.
+#[derive(Clone, Copy)]
+pub(crate) struct Symbols<'a> {
+    pub(crate) message: &'a [u32],
+}
+
+impl fmt::Display for Symbols<'_> {
+    fn fmt<W: fmt::Write>(&self, f: &mut fmt::Formatter<W>) -> fmt::Result {
+        for symbol in self.message {
+            write!(f, " {symbol}")?;
+        }
+        Ok(())
     }
-    Ok(())
 }

@@ -1,3 +1,3 @@
-pub mod Either
+pub mod OneOfTwo
 pub mod Rules
 pub mod Texts

@@ -1,12 +1,11 @@
 //! Rules of messages: what an answer names (`verdict`), who answers (`family`), one
-//! family after another (`chain`), and the family that has none (`none`).
+//! family after another (`chain`), one of two (`one_of_two`), and the family that has none
+//! (`none`).
 
 #![tactic(auto)]
 
 pub mod chain;
-mod either;
 pub mod family;
 pub mod none;
-#[cfg(test)]
-mod tests;
+mod one_of_two;
 pub mod verdict;

@@ -3,7 +3,7 @@
 use parts::part::Part;
 
 /// What a set is asked, in whichever state it is. A compare may have one family hung behind.
-#[derive(Clone, Copy)]
+#[derive_where(Clone, Copy)]
 pub enum Call<'c, F> {
     Issue,
     Recall,
