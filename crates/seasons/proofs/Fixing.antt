@@ -1,6 +1,5 @@
 -- That the law of a season fixes its answers. Assumes nothing.
 use Rattle.std.proofs.Common.{◌≡◌, ℕ, zero, suc, ◌<◌, ◌≤◌, cond, List, length, refl, sym, ap, ◌∙◌, subst, eqb, arith}
-use Rattle.std.proofs.lemmas.List.{same_lists, get_or_default}
 use Rattle.parts.specs.Refusals.{Notice, notice}
 use Rattle.parts.specs.declared.refusal.Refusal.{Refusal}
 use Rattle.parts.specs.declared.refusal.Refusal.TheVariants.{SheetLength, NoSuchNumber, AlreadyDeclared, TableLength, Part, NotDeclared, Conflict, MessageLength, SymbolTooLarge}
