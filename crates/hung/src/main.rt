@@ -13,7 +13,7 @@ mod words;
 
 use calls::mixed_season;
 use families::{Family, families};
-use messages::write_messages;
+use messages::{write_messages, write_two_boards};
 use parts::part::Part;
 use season::write_season;
 use sheets::write_sheets;
@@ -29,6 +29,7 @@ fn main(rt: HostRuntime) -> io::Result<()> {
     write_sheets(heap, &mut out)?;
     writeln!(out, "# families asked about messages")?;
     write_messages(&families, &mut out)?;
+    write_two_boards(&mut out)?;
     writeln!(out, "# families hung behind compares, by turns")?;
     write_mixed(heap, &families, &mut out)?;
     out.flush()

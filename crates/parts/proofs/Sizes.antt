@@ -40,7 +40,7 @@ size_below (suc n) set =
 pub size_is : (set : ℕ) → set < 2 ^ 64 → length (members set) ≡ ones set
 size_is set small = size_below 64 set ∙ ap ones (mod-eq_of_lt small)
 
--- no symbol stands below n, and none is there, or some does, and one is there
+-- the list of the symbols below n is empty and no bit below n is 1, or it is not and some bit is
 Below : ℕ → ℕ → Type 0
 Below n set = ((length (symbols_below n set) ≡ 0) × ((s : ℕ) → s < n → bit_at set s ≡ 1 → ⊥)) ⊎ ((0 < length (symbols_below n set)) × ((s : ℕ) × (s < n) × (bit_at set s ≡ 1)))
 

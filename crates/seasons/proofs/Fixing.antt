@@ -86,4 +86,4 @@ module _ {F : Type 0} (rules : F → List Rule) (l n : ℕ) (calls : List (Call 
   answers_same k small = same_answer _ _ (told_fixed k small (past_fixed k (omega (arith, small))))
 
 pub answers_fixed : {F : Type 0} (rules : F → List Rule) (l : ℕ) (calls : List (Call F)) → AnswersFixed rules l calls
-answers_fixed rules l calls n answers lawful other also = answers_same rules l n calls other answers also lawful
+answers_fixed rules l calls n answers lawful = (lawful, λ other also. answers_same rules l n calls other answers also lawful)

@@ -14,7 +14,7 @@ use Rattle.seasons.specs.declared.call.Call.TheVariants as call
 use Rattle.seasons.specs.declared.answer.Answer.{Answer}
 use Rattle.seasons.specs.declared.answer.Answer.TheVariants as answer
 
--- the call and the answer at place k, counted from 0
+-- the call and the answer at place k, counted from 0; past the end of a list, an issue that is granted
 abbrev pub call_at : {F : Type 0} → ℕ → List (Call F) → Call F
 call_at k calls = get_or calls k call.Issue
 
@@ -35,9 +35,9 @@ Lawful rules l n calls answers =
 abbrev pub SameAnswers : ℕ → List Answer → List Answer → Type 0
 SameAnswers n one two = (k : ℕ) → k < n → answer_at k one ≡ answer_at k two
 
--- the answers to the first n calls are the only lawful ones
+-- the answers to the first n calls are lawful, and whatever others are lawful are the same
 abbrev pub OnlyLawful : {F : Type 0} → (F → List Rule) → ℕ → ℕ → List (Call F) → List Answer → Type 0
-OnlyLawful rules l n calls answers = (other : List Answer) → Lawful rules l n calls other → SameAnswers n other answers
+OnlyLawful rules l n calls answers = Lawful rules l n calls answers × ((other : List Answer) → Lawful rules l n calls other → SameAnswers n other answers)
 
 -- so the law leaves no answer open, however many calls are run
 abbrev pub AnswersFixed : {F : Type 0} → (F → List Rule) → ℕ → List (Call F) → Type 0

@@ -132,6 +132,8 @@ pub fn whole_season<F: RuleFamily>(
     ensures only { IfOk result (λ answers. OnlyLawful F.rules (length sheet.old) (length calls.now) calls.now answers.items) }
     ensures shows { IfOk result (λ answers. Shows sheet.old (past (length calls.now) calls.now answers.items) sheet.new) }
     ensures unrun { OnErr result (sheet.new ≡ sheet.old) }
+    ensures fixed { AnswersFixed F.rules (length sheet.old) calls.now }
+    ensures stands { StandsExactly }
 {
     let mut answers = vec![in heap; Answer::Granted; calls.len()]?;
     season(sheet, calls, &mut answers);

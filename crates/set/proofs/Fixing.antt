@@ -13,7 +13,7 @@ use Rattle.set.specs.Five.{five}
 use Rattle.set.specs.Histories.{Asked, Told, History, named, stands, state}
 use Rattle.set.specs.Histories.Asked.{declare, withdraw, issue, recall, compare, judge}
 use Rattle.set.specs.Histories.Told.{included, fits}
-use Rattle.set.specs.Law.{Ends, Granted, Only, ModelIs, ComparedTo, JudgedBy, DeclareEnds, WithdrawEnds, CompareEnds, JudgeEnds, compare_asked, judge_asked, InDrawnUp, InIssued, Due}
+use Rattle.set.specs.Law.{Ends, Granted, Only, ModelIs, ComparedTo, JudgedBy, CompareEnds, JudgeEnds, compare_asked, judge_asked, InDrawnUp, InIssued, Due}
 use Rattle.set.proofs.Standing.{same_parts}
 
 -- there is one such answer
@@ -63,12 +63,6 @@ module _ (was : Option (List Part)) (message : Message) where
 -- so what a call ends with is the only answer
 only : (Says : Told → Type 0) (told : Told) → Fixed Says → Says told → Only Says told
 only Says told fixed says = (says, λ other also. fixed other told also says)
-
-pub declare_only : (n : ℕ) (was : Option (List Part)) (m : ℕ) (ps : List Part) (told : Told) → DeclareEnds n was m ps told → Only (DeclareEnds n was m ps) told
-declare_only n was m ps told = only (DeclareEnds n was m ps) told (ends_fixed _ Granted granted_fixed)
-
-pub withdraw_only : (n : ℕ) (was : Option (List Part)) (m : ℕ) (told : Told) → WithdrawEnds n was m told → Only (WithdrawEnds n was m) told
-withdraw_only n was m told = only (WithdrawEnds n was m) told (ends_fixed _ Granted granted_fixed)
 
 compare_fixed : (behind : List Rule) (n : ℕ) (sent expected : Option (List Part)) (s e : ℕ) → Fixed (CompareEnds behind n sent expected s e)
 compare_fixed behind n sent expected s e = ends_fixed (compare_asked n sent expected s e) (Compares behind sent expected) (compares_fixed behind sent expected)
