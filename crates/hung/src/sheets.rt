@@ -23,13 +23,23 @@ const LENGTHS: [usize; 4] = [0, SHEET_PARTS - 1, SHEET_PARTS, SHEET_PARTS + 1];
 pub(crate) fn write_sheets<W: io::Write>(heap: Global, out: &mut W) -> io::Result<()> {
     for length in LENGTHS {
         let mut sheet = vec![in heap; MARK; length]?;
-        match check_sheet(&sheet) {
-            Ok(()) => writeln!(out, "# a sheet of {length} parts: taken")?,
-            Err(refusal) => writeln!(out, "# a sheet of {length} parts: {refusal}")?,
-        }
+        write_check(&sheet, out)?;
         write_season(heap, &mut sheet, &each_call(), out)?;
-        let altered = sheet.iter().filter(|part| **part != MARK).count();
-        writeln!(out, "{altered} of {length} parts altered")?;
+        write_altered(&sheet, out)?;
     }
     Ok(())
+}
+
+fn write_check<W: io::Write>(sheet: &[Part], out: &mut W) -> io::Result<()> {
+    let length = sheet.len();
+    match check_sheet(sheet) {
+        Ok(()) => writeln!(out, "# a sheet of {length} parts: taken"),
+        Err(refusal) => writeln!(out, "# a sheet of {length} parts: {refusal}"),
+    }
+}
+
+fn write_altered<W: io::Write>(sheet: &[Part], out: &mut W) -> io::Result<()> {
+    let length = sheet.len();
+    let altered = sheet.iter().filter(|part| **part != MARK).count();
+    writeln!(out, "{altered} of {length} parts altered")
 }
