@@ -1,0 +1,3 @@
+//! The names of elements, and the symbols that they become.
+
+#![tactic(auto)]
