@@ -1,0 +1,76 @@
+//! How much of what is wanted stands at the front of a text (docs/TEXTS.md).
+
+ghost use Rattle.std.specs.Prelude.{◌≡◌};
+ghost use Rattle.std.specs.List.{prefix_len};
+ghost use Rattle.text.specs.Bytes.{is_blank as blank, begins_name as begins, goes_in_name as goes_in, is_char as commented};
+ghost use Rattle.text.specs.Fronts.{agreed, Inside};
+
+/// Whether the byte is white space.
+fn is_blank(byte: u8) -> bool
+    ensures { result ≡ blank byte }
+{
+    matches!(byte, b'\t' | b'\n' | b'\r' | b' ')
+}
+
+/// Whether a name can begin with the byte.
+pub(super) fn begins_name(byte: u8) -> bool
+    ensures { result ≡ begins byte }
+{
+    matches!(byte, b'A'..=b'Z' | b'a'..=b'z' | b'_')
+}
+
+/// Whether a name can go on with the byte.
+fn goes_in_name(byte: u8) -> bool
+    ensures { result ≡ goes_in byte }
+{
+    begins_name(byte) || matches!(byte, b'0'..=b'9' | b'-' | b'.')
+}
+
+/// Whether the byte can stand in a comment, if it does not end it.
+pub(super) fn is_char(byte: u8) -> bool
+    ensures { result ≡ commented byte }
+{
+    matches!(byte, b'\t' | b'\n' | b'\r' | b' '..=127)
+}
+
+/// How many bytes at the front are white space.
+pub(super) fn blanks(text: &[u8]) -> usize
+    ensures { result ≡ prefix_len blank text.now }
+{
+    text.iter().take_while(|b| is_blank(**b)).count()
+}
+
+/// How many bytes at the front can stand in a name.
+pub(super) fn name_bytes(text: &[u8]) -> usize
+    ensures { result ≡ prefix_len goes_in text.now }
+{
+    text.iter().take_while(|b| goes_in_name(**b)).count()
+}
+
+/// How many bytes of the word stand at the front.
+pub(super) fn common(word: &[u8], text: &[u8]) -> usize
+    ensures { result ≡ agreed word.now text.now }
+{
+    word.iter()
+        .zip(text)
+        .take_while(|(c, b)| **c == **b)
+        .count()
+}
+
+/// How many bytes at the front are the inside of a comment, behind which stands `-->`;
+/// or how many go on as a comment does, where it does not end.
+pub(super) fn comment_inside(text: &[u8]) -> Result<usize, usize>
+    ensures { Inside text.now result }
+{
+    let mut at = 0;
+    loop {
+        match &text[at..] {
+            [b'-', b'-', b'>', ..] => return Ok(at),
+            [b'-', b'-', ..] => return Err(at + 2),
+            [b'-', b, ..] if is_char(*b) => at += 2,
+            [b'-', ..] => return Err(at + 1),
+            [b, ..] if is_char(*b) => at += 1,
+            _ => return Err(at),
+        }
+    }
+}
