@@ -42,6 +42,7 @@ notice (SymbolTooLarge place) = at_set 13 place
 abbrev pub layer_name_of : Layer → List ℕ
 layer_name_of layer.Set = codes "set"
 layer_name_of layer.Part = codes "part"
+layer_name_of layer.Text = codes "text"
 
 -- what is printed of a refusal
 abbrev pub refusal_said : Notice → List ℕ

@@ -12,6 +12,8 @@ pub enum Layer {
     Set,
     /// a question about one part of a table
     Part,
+    /// a fault of a text that models are read from
+    Text,
 }
 
 /// The first question that a table's parts fail.
@@ -124,6 +126,7 @@ impl fmt::Display for Layer {
         f.write_str(match self {
             Layer::Set => "set",
             Layer::Part => "part",
+            Layer::Text => "text",
         })
     }
 }

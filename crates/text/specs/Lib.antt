@@ -1,3 +1,4 @@
 pub mod Bytes
+pub mod Contents
 pub mod Cursors
 pub mod Fronts

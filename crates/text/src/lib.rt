@@ -2,5 +2,7 @@
 
 #![tactic(auto)]
 
+mod content;
 mod cursor;
+mod join;
 mod mark;
