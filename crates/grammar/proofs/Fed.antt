@@ -83,7 +83,7 @@ blanks_on : (g : List ℕ) (σ : Spot) → IsSpace g → tight σ ≡ false → 
 blanks_on [] σ h t = refl
 blanks_on (b ∷ g) σ h t = ap (feeds g) (blank_fed (at σ true) σ true b (refl, refl) h.0 t) ∙ blanks_on g σ h.1 t
 
-blanks_fed : (b : ℕ) (g : List ℕ) (φ : Phase) (σ : Spot) (h : Bool) → Stands φ σ h → IsSpace (b ∷ g) → tight σ ≡ false → feeds (b ∷ g) (Some φ) ≡ Some (at σ true)
+pub blanks_fed : (b : ℕ) (g : List ℕ) (φ : Phase) (σ : Spot) (h : Bool) → Stands φ σ h → IsSpace (b ∷ g) → tight σ ≡ false → feeds (b ∷ g) (Some φ) ≡ Some (at σ true)
 blanks_fed b g φ σ h st e t = ap (feeds g) (blank_fed φ σ h b st e.0 t) ∙ blanks_on g σ e.1 t
 
 no_suffix : (σ : Spot) (s : Sign) (ρ : Spot) → go σ s ≡ Some ρ → spaced σ ≡ true → is_suffix s ≡ false
@@ -133,7 +133,7 @@ gap_fed (b ∷ g) φ σ ρ s st not some space e = both_ways (spaced σ) refl
         (at σ true, true, blanks_fed b g φ σ false st all (loose σ s ρ e suf), (refl, refl), suf)
 
 -- comments
-bits_fed : (us : List Bit) (ds : List Declaration) → AreBits us → feeds (bits us) (Some (inside ds)) ≡ Some (inside ds)
+pub bits_fed : (us : List Bit) (ds : List Declaration) → AreBits us → feeds (bits us) (Some (inside ds)) ≡ Some (inside ds)
 bits_fed [] ds h = refl
 bits_fed (plain b ∷ us) ds ((char, other), h) =
     let one : feed (inside ds) b ≡ Some (inside ds) = rw (other, char) refl in
@@ -142,7 +142,7 @@ bits_fed (dashed b ∷ us) ds ((char, other), h) =
     let one : feed (dash ds) b ≡ Some (inside ds) = rw (other, char) refl in
     ap (feeds (bits us)) one ∙ bits_fed us ds h
 
-piece_fed : (p : Between) (ds : List Declaration) (φ : Phase) (g : Bool) → Stands φ (outside ds) g → IsPiece p → feeds (piece p) (Some φ) ≡ Some (at (outside ds) true)
+pub piece_fed : (p : Between) (ds : List Declaration) (φ : Phase) (g : Bool) → Stands φ (outside ds) g → IsPiece p → feeds (piece p) (Some φ) ≡ Some (at (outside ds) true)
 piece_fed (blank b) ds φ g st h = blank_fed φ (outside ds) g b st h refl
 piece_fed (remark us) ds φ g st h =
     ap (feeds (33 ∷ 45 ∷ 45 ∷ (bits us ++ codes "-->"))) (feed_stands φ (outside ds) g 60 st (inl refl))

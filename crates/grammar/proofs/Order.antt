@@ -136,10 +136,10 @@ other (full ds n c) ends ρ e k h = absurd (false≢true (sym k))
 other (full ds n c) s ρ e k h = no_spot ρ e
 
 -- a whole name
-tail_same : (b c : ℕ) (bs cs : List ℕ) → b ∷ bs ≡ c ∷ cs → bs ≡ cs
+pub tail_same : (b c : ℕ) (bs cs : List ℕ) → b ∷ bs ≡ c ∷ cs → bs ≡ cs
 tail_same b c bs cs e = ap (λ xs. elim xs [ [] ↦ bs | y ∷ ys ↦ ys ]) e
 
-head_same : (b c : ℕ) (bs cs : List ℕ) → b ∷ bs ≡ c ∷ cs → b ≡ c
+pub head_same : (b c : ℕ) (bs cs : List ℕ) → b ∷ bs ≡ c ∷ cs → b ≡ c
 head_same b c bs cs e = ap (λ xs. elim xs [ [] ↦ b | y ∷ ys ↦ y ]) e
 
 ends_not : (c : ℕ) (xs ys : List ℕ) → xs ≡ c ∷ ys → NameEnds xs → goes_in_name c ≡ true → ⊥

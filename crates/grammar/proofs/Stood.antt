@@ -14,6 +14,7 @@ use Rattle.grammar.specs.Machine.Spot.{outside, opened, titled, kids, mixed, wan
 use Rattle.grammar.specs.Machine.Named.{title, kid, mate}
 use Rattle.grammar.specs.Machine.Fixed.{the_element, the_empty, the_any, the_pcdata}
 use Rattle.grammar.specs.Machine.Phase.{at, naming, word, angle, bang, bar, inside, dash, dashes}
+use Rattle.grammar.specs.Progress.{Ends}
 use Rattle.grammar.proofs.Signs.{Good, Sound, go_sound, SignsFit, SignsFit-parts, no_spot, goes_none, all_go, all_fit}
 use Rattle.grammar.proofs.Spelt.{token, Base, extend, Spelt, Leads, feed_leads, start_spelt, feeds_none, signs_of-append, written-append, longer, name_goes, name_fits}
 use Rattle.grammar.proofs.Fed.{feeds_on, same_some, suffix_gap, blank_no_name}
@@ -253,11 +254,7 @@ name_ended (title ds) n rest h = h
 name_ended (kid ds m o l) n rest h = h
 name_ended (mate ds m ns) n rest h = h
 
-abbrev EndsName : Phase → List ℕ → Type 0
-EndsName (naming a n) rest = NameEnds rest
-EndsName φ rest = Unit {0}
-
-tokened : (p : List ℕ) (φ : Phase) (rest : List ℕ) → Spelt p φ → FreshEnd φ → EndsName φ rest → Tokened p φ rest
+tokened : (p : List ℕ) (φ : Phase) (rest : List ℕ) → Spelt p φ → FreshEnd φ → Ends φ rest → Tokened p φ rest
 tokened p (at (outside ds) g) rest (ts, gap, base, h, t, w) f e =
     let (read, all, well) = outer p gap rest ts ds base w in (ts, gap, outside ds, base, read, all, well)
 tokened p (at σ true) rest (ts, gap, base, h, t, w) f e = (ts, gap, σ, base, base.1, w, ends_space (end_of (signs_of ts)) gap rest h)
@@ -316,7 +313,7 @@ name_stopped a n b e = either (goes_in_name b) refl
         absurd (false≢true (ap is_some (sym e ∙ one)))
     either false k = refl
 
-ends_here : (φ : Phase) (left : List ℕ) → ((b : ℕ) (rest : List ℕ) → left ≡ b ∷ rest → feed φ b ≡ None) → EndsName φ left
+ends_here : (φ : Phase) (left : List ℕ) → ((b : ℕ) (rest : List ℕ) → left ≡ b ∷ rest → feed φ b ≡ None) → Ends φ left
 ends_here (naming a n) [] h = tt
 ends_here (naming a n) (b ∷ rest) h = name_stopped a n b (h b rest refl)
 ends_here (at σ g) left h = tt

@@ -6,4 +6,5 @@ pub mod Notations
 pub mod Declarations
 pub mod Faults
 pub mod Machine
+pub mod Progress
 pub mod Tried

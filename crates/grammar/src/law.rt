@@ -2,6 +2,7 @@
 
 ghost use Rattle.grammar.specs.Machine.{Complete, Sound, OneReading, Completion, Viable, StopsThere, SignsMet, OneSign, InOrder, SignsBefore, EndsMet, FaultsMet, SignsRead, FaultlessGrows, GivesAll, GivesKind, GivesSign, Computed, GivesSome, GivesFront};
 ghost use Rattle.grammar.specs.Lists.{ReadExactly, ViableExactly};
+ghost use Rattle.grammar.specs.Progress.{StandsFirst, PassesSpace, PassesComment, PassesSign, SignAtFault, StopsAtByte, StopsAtEnd, StopsInWord, StopsBeforeComment, StopsInComment, EndsWhole, GivesMore, StandsBetween};
 ghost use Rattle.grammar.specs.Tried.{Limits, Shown, Tried};
 ghost use Rattle.grammar.specs.Notations.Notation.{dtd};
 ghost use Rattle.grammar.specs.Faults.{GivesOne};
@@ -44,4 +45,22 @@ pub fn texts_worked()
     ensures tried { Tried }
     ensures shown { Shown }
     ensures limits { Limits }
+{}
+
+/// Reading goes on over white space, comments and signs, and where it stops, what the text gives is
+/// known: its first fault is there, or it ends whole.
+pub fn steps()
+    ensures first { StandsFirst }
+    ensures space { PassesSpace }
+    ensures comment { PassesComment }
+    ensures sign { PassesSign }
+    ensures fault { SignAtFault }
+    ensures byte { StopsAtByte }
+    ensures end { StopsAtEnd }
+    ensures word { StopsInWord }
+    ensures before_comment { StopsBeforeComment }
+    ensures in_comment { StopsInComment }
+    ensures whole { EndsWhole }
+    ensures more { GivesMore }
+    ensures between { StandsBetween }
 {}
