@@ -1,0 +1,10 @@
+pub mod Words
+pub mod Lists
+pub mod Bytes
+pub mod Meaning
+pub mod Notations
+pub mod Declarations
+pub mod Faults
+pub mod Machine
+pub mod Progress
+pub mod Tried
