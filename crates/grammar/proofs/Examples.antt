@@ -8,19 +8,19 @@ use Rattle.grammar.specs.Words.Mark.{optional}
 use Rattle.grammar.specs.Notations.Notation.{dtd}
 use Rattle.grammar.specs.Declarations.{Sign}
 use Rattle.grammar.specs.Declarations.Sign.{element, declared, empty_word, any_word, inner, ends}
-use Rattle.grammar.specs.Faults.{Gives}
+use Rattle.grammar.specs.Faults.{Gives, AllFaultless, Faultless}
 use Rattle.grammar.specs.Faults.Cause.{kind, again, beyond}
-use Rattle.grammar.specs.Machine.{AllFaultless, Faultless}
+use Rattle.grammar.specs.Machine.{}
 use Rattle.grammar.specs.Machine.Spot.{outside, opened, titled}
 use Rattle.grammar.specs.Machine.Phase.{at}
 use Rattle.grammar.specs.Tried.{one, void, Shown}
 use Rattle.grammar.proofs.Gives.{gives_all, gives_kind, gives_sign}
 use Rattle.grammar.proofs.Whole.{all_judged, short_name, few_parts}
 
-element_fits : (ss : List Sign) → Rattle.grammar.specs.Faults.begun dtd ss < 32 → Faultless [] ss element
+element_fits : (ss : List Sign) → Rattle.grammar.specs.Faults.begun dtd ss < 32 → Faultless dtd [] ss element
 element_fits ss h = (λ x. x, λ x. absurd (omega arith))
 
-void_faultless : AllFaultless [] (element ∷ declared (codes "a") ∷ empty_word ∷ ends ∷ [])
+void_faultless : AllFaultless dtd [] (element ∷ declared (codes "a") ∷ empty_word ∷ ends ∷ [])
 void_faultless = all_judged [] _ (
   element_fits [] (omega arith),
   (
@@ -32,7 +32,7 @@ void_faultless = all_judged [] _ (
   ),
 )
 
-title_faultless : AllFaultless [] (element ∷ declared (codes "a") ∷ [])
+title_faultless : AllFaultless dtd [] (element ∷ declared (codes "a") ∷ [])
 title_faultless = all_judged [] _ (
   element_fits [] (omega arith),
   ((false≢true, short_name [] (element ∷ []) (codes "a") (omega arith) (omega arith)), tt),

@@ -4,9 +4,9 @@ use Rattle.std.proofs.lemmas.List.{take_all}
 use Rattle.std.proofs.lemmas.Bool.{cases_lt}
 use Rattle.grammar.specs.Notations.Notation.{dtd}
 use Rattle.grammar.specs.Declarations.{Sign, sign_bytes}
-use Rattle.grammar.specs.Faults.{LongestStart, SignStands, Repeats, Cause, number, FaultAt}
+use Rattle.grammar.specs.Faults.{LongestStart, SignStands, Repeats, Cause, number, FaultAt, Faultless, AllFaultless}
 use Rattle.grammar.specs.Faults.Cause.{kind, again, beyond}
-use Rattle.grammar.specs.Machine.{Phase, feeds, first, Met, SignFits, signs_by, Faultless, AllFaultless, FaultlessGrows, GivesAll, GivesKind, GivesSign}
+use Rattle.grammar.specs.Machine.{Phase, feeds, first, Met, SignFits, signs_by, FaultlessGrows, GivesAll, GivesKind, GivesSign}
 use Rattle.grammar.specs.Machine.Spot.{outside}
 use Rattle.grammar.specs.Machine.Phase.{at}
 use Rattle.grammar.proofs.Text.{sound, complete}
@@ -45,13 +45,13 @@ among (u ∷ us) s (r ∷ ss) t more e =
 pub faultless_grows : FaultlessGrows
 faultless_grows ks = ((λ ss s more e. no_snoc ss s more e), (λ us s all one ss t more e. either us s all one ss t (among us s ss t more e)))
   where
-    either : (us : List Sign) (s : Sign) → AllFaultless ks us → Faultless ks us s → (ss : List Sign) (t : Sign) → Among us s ss t → Faultless ks ss t
-    either us s all one ss t (inl (same, is)) = subst (λ x. Faultless ks ss x) is (subst (λ x. Faultless ks x s) same one)
+    either : (us : List Sign) (s : Sign) → AllFaultless dtd ks us → Faultless dtd ks us s → (ss : List Sign) (t : Sign) → Among us s ss t → Faultless dtd ks ss t
+    either us s all one ss t (inl (same, is)) = subst (λ x. Faultless dtd ks ss x) is (subst (λ x. Faultless dtd ks x s) same one)
     either us s all one ss t (inr (less, is)) = all ss t less is
 
 -- no sign that stands is at fault, where all that were read are not
 none_stands : (ks : List (List ℕ)) (bytes : List ℕ) (n q : ℕ) (ss : List Sign) (s : Sign) (φ : Phase) → n ≤ length bytes → feeds (take n bytes) first ≡ Some φ
-    → AllFaultless ks (signs_by φ) → SignStands dtd bytes q ss s → q + length (sign_bytes dtd s) ≤ n → Faultless ks ss s
+    → AllFaultless dtd ks (signs_by φ) → SignStands dtd bytes q ss s → q + length (sign_bytes dtd s) ≤ n → Faultless dtd ks ss s
 none_stands ks bytes n q ss s φ le e all stands within =
     let (more, is) = signs_read bytes q n ss s φ stands within le e in
     all ss s more is
@@ -62,7 +62,7 @@ gives_all ks bytes ds (g, e) all = (sound bytes ds (g, e), none)
     whole : feeds (take (length bytes) bytes) first ≡ Some (at (outside ds) g)
     whole = ap (λ x. feeds x first) (take_all (length bytes) bytes (omega arith)) ∙ e
 
-    clean : (q : ℕ) (ss : List Sign) (s : Sign) → SignStands dtd bytes q ss s → Faultless ks ss s
+    clean : (q : ℕ) (ss : List Sign) (s : Sign) → SignStands dtd bytes q ss s → Faultless dtd ks ss s
     clean q ss s h = none_stands ks bytes (length bytes) q ss s (at (outside ds) g) (omega arith) whole all h (stands_within bytes q ss s h)
 
     none : (c : Cause) (q : ℕ) → FaultAt dtd ks bytes c q → ⊥
@@ -76,7 +76,7 @@ gives_kind ks bytes n φ rejects stops e all = (((λ ds t. rejects ds (complete 
     longest : LongestStart dtd bytes n
     longest = (stops_there bytes n).0 stops
 
-    clean : (q : ℕ) (ss : List Sign) (s : Sign) → SignStands dtd bytes q ss s → Faultless ks ss s
+    clean : (q : ℕ) (ss : List Sign) (s : Sign) → SignStands dtd bytes q ss s → Faultless dtd ks ss s
     clean q ss s h = none_stands ks bytes n q ss s φ stops.0 e all h (signs_before bytes q n ss s h longest)
 
     same : (q : ℕ) → LongestStart dtd bytes q → n ≡ q
@@ -94,9 +94,9 @@ gives_kind ks bytes n φ rejects stops e all = (((λ ds t. rejects ds (complete 
 
 -- a sign
 abbrev AtOrBehind : List (List ℕ) → ℕ → List Sign → Sign → ℕ → List Sign → Sign → Type 0
-AtOrBehind ks q ss s r rs t = (q < r) ⊎ (((q ≡ r) × ((ss ≡ rs) × (s ≡ t))) ⊎ Faultless ks rs t)
+AtOrBehind ks q ss s r rs t = (q < r) ⊎ (((q ≡ r) × ((ss ≡ rs) × (s ≡ t))) ⊎ Faultless dtd ks rs t)
 
-at_or_behind : (ks : List (List ℕ)) (bytes : List ℕ) (q r : ℕ) (ss rs : List Sign) (s t : Sign) → SignStands dtd bytes q ss s → AllFaultless ks ss → SignStands dtd bytes r rs t
+at_or_behind : (ks : List (List ℕ)) (bytes : List ℕ) (q r : ℕ) (ss rs : List Sign) (s t : Sign) → SignStands dtd bytes q ss s → AllFaultless dtd ks ss → SignStands dtd bytes r rs t
     → AtOrBehind ks q ss s r rs t
 at_or_behind ks bytes q r ss rs s t h all k = either (cases_lt q r) (cases_lt r q)
   where
@@ -113,7 +113,7 @@ stop_behind bytes q r ss s h fit longest =
     let within = signs_before bytes q r ss s h longest in
     omega arith
 
-again_least : (ks : List (List ℕ)) (bytes : List ℕ) (q : ℕ) (ss : List Sign) (s : Sign) → SignStands dtd bytes q ss s → SignFits s → AllFaultless ks ss
+again_least : (ks : List (List ℕ)) (bytes : List ℕ) (q : ℕ) (ss : List Sign) (s : Sign) → SignStands dtd bytes q ss s → SignFits s → AllFaultless dtd ks ss
     → (d : Cause) (r : ℕ) → FaultAt dtd ks bytes d r → (q < r) ⊎ ((q ≡ r) × (15 ≤ number dtd d))
 again_least ks bytes q ss s h fit all kind r k = inl (stop_behind bytes q r ss s h fit k.1)
 again_least ks bytes q ss s h fit all again r (rs, t, k, x) = either (at_or_behind ks bytes q r ss rs s t h all k)
@@ -129,7 +129,7 @@ again_least ks bytes q ss s h fit all beyond r (rs, t, k, x) = either (at_or_beh
     either (inr (inl (same, e))) = inr (same, omega arith)
     either (inr (inr y)) = absurd (y.1 x)
 
-beyond_least : (ks : List (List ℕ)) (bytes : List ℕ) (q : ℕ) (ss : List Sign) (s : Sign) → SignStands dtd bytes q ss s → SignFits s → AllFaultless ks ss → (Repeats ss s → ⊥)
+beyond_least : (ks : List (List ℕ)) (bytes : List ℕ) (q : ℕ) (ss : List Sign) (s : Sign) → SignStands dtd bytes q ss s → SignFits s → AllFaultless dtd ks ss → (Repeats ss s → ⊥)
     → (d : Cause) (r : ℕ) → FaultAt dtd ks bytes d r → (q < r) ⊎ ((q ≡ r) × (16 ≤ number dtd d))
 beyond_least ks bytes q ss s h fit all new kind r k = inl (stop_behind bytes q r ss s h fit k.1)
 beyond_least ks bytes q ss s h fit all new again r (rs, t, k, x) = either (at_or_behind ks bytes q r ss rs s t h all k)

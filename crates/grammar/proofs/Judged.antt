@@ -9,9 +9,9 @@ use Rattle.grammar.specs.Declarations.{Declaration, Sign, sign_bytes, all_signs}
 use Rattle.grammar.specs.Declarations.Content.{none}
 use Rattle.grammar.specs.Declarations.Sign.{element, declared, empty_word, any_word, pcdata_word, inner, ends}
 use Rattle.names.specs.Numbering.{is_known, known_after}
-use Rattle.grammar.specs.Faults.{Repeats, Beyond, NameBeyond, PartsBeyond, parts_of, names_among, begun, open_groups, is_declared, EndsWell}
+use Rattle.grammar.specs.Faults.{Repeats, Beyond, NameBeyond, PartsBeyond, parts_of, names_among, begun, open_groups, is_declared, EndsWell, AllFaultless}
 use Rattle.grammar.specs.Faults.Cause.{again, beyond}
-use Rattle.grammar.specs.Machine.{Spot, spelled, SignFits, go, goes, refused, feeds, first, spot_read, AllFaultless}
+use Rattle.grammar.specs.Machine.{Spot, spelled, SignFits, go, goes, refused, feeds, first, spot_read}
 use Rattle.grammar.specs.Machine.Spot.{outside}
 use Rattle.grammar.specs.Machine.Phase.{at}
 use Rattle.grammar.specs.Tried.{Gave, GaveFault}
@@ -103,7 +103,7 @@ clear_on ks (s ∷ rest) ss e =
     let second_part = and_parts (not (over ks ss s)) _ first_part.1 in
     ((no_repeat ss s (not_parts _ first_part.0), no_beyond ks ss s (not_parts _ second_part.0)), clear_on ks rest (ss ++ (s ∷ [])) second_part.1)
 
-pub clear : (ks : List (List ℕ)) (us : List Sign) → all_clear ks [] us ≡ true → AllFaultless ks us
+pub clear : (ks : List (List ℕ)) (us : List Sign) → all_clear ks [] us ≡ true → AllFaultless dtd ks us
 clear ks us e = all_judged ks us (clear_on ks us [] e)
 
 is_le : (m n : ℕ) → nat_le m n ≡ true → m ≤ n

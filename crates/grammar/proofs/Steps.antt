@@ -9,10 +9,10 @@ use Rattle.grammar.specs.Bytes.{is_char, IsSomeSpace, Bit, AreBits, bits, commen
 use Rattle.grammar.specs.Bytes.Between.{remark}
 use Rattle.grammar.specs.Notations.Notation.{dtd}
 use Rattle.grammar.specs.Declarations.{Declaration, Sign, all_signs, sign_bytes}
-use Rattle.grammar.specs.Faults.{EndsWell, Gives}
+use Rattle.grammar.specs.Faults.{EndsWell, Gives, AllFaultless}
 use Rattle.grammar.specs.Faults.Cause.{kind, again, beyond}
 use Rattle.grammar.specs.Lists.State.{want}
-use Rattle.grammar.specs.Machine.{Spot, spelled, tight, refused, Named, name_before, name_sign, Fixed, word_before, word_sign, Phase, word_on, feed_at, feed, feeds, first, Stands, Accepts, is_outside, is_end, spot_read, read_by, signs_by, AllFaultless, Met}
+use Rattle.grammar.specs.Machine.{Spot, spelled, tight, refused, Named, name_before, name_sign, Fixed, word_before, word_sign, Phase, word_on, feed_at, feed, feeds, first, Stands, Accepts, is_outside, is_end, spot_read, read_by, signs_by, Met}
 use Rattle.grammar.specs.Machine.Spot.{outside, titled, kids}
 use Rattle.grammar.specs.Machine.Named.{title, kid, mate}
 use Rattle.grammar.specs.Machine.Fixed.{the_element, the_empty, the_any, the_pcdata}
@@ -140,7 +140,7 @@ passes_sign ks bytes k σ h s τ rest r may e fit d well one =
       fed = fed;
       stands = st;
       ends = subst (Ends ψ) (sym behind) (ends_behind (take (k + length (sign_bytes dtd s)) bytes) ψ σ τ s rest (led (take (k + length (sign_bytes dtd s)) bytes) (Some ψ) fed) st sound.0 well);
-      faultless = subst (AllFaultless ks) (sym sound.0) ((faultless_grows ks).1 (spelled σ) s r.faultless one);
+      faultless = subst (AllFaultless dtd ks) (sym sound.0) ((faultless_grows ks).1 (spelled σ) s r.faultless one);
     }
 
 pub sign_at_fault : SignAtFault
@@ -171,7 +171,7 @@ end_stuck bytes k φ ds e d stop (g, a) =
     false≢true (sym stop ∙ ap (λ o. elim o [ None ↦ false | Some χ ↦ is_end χ ]) (sym e ∙ ap (λ x. feeds x first) (whole_at bytes k d) ∙ a))
 
 pub stuck : (ks : List (List ℕ)) (bytes : List ℕ) (k : ℕ) (φ : Phase) (rest : List ℕ) → k ≤ length bytes → feeds (take k bytes) first ≡ Some φ
-    → AllFaultless ks (signs_by φ) → drop k bytes ≡ rest → Stuck φ rest → Gives dtd ks bytes (read_by φ) (Some (kind, k))
+    → AllFaultless dtd ks (signs_by φ) → drop k bytes ≡ rest → Stuck φ rest → Gives dtd ks bytes (read_by φ) (Some (kind, k))
 stuck ks bytes k φ [] le e all d h =
     let size : length bytes - k ≡ 0 = sym (length-drop k bytes) ∙ ap length d in
     gives_kind ks bytes k φ (λ ds a. end_stuck bytes k φ ds e d h a) (le, ap is_some e, λ less. absurd (omega arith)) e all
@@ -188,7 +188,7 @@ stuck_at : (ks : List (List ℕ)) (bytes : List ℕ) (k : ℕ) (σ : Spot) (h : 
 stuck_at ks bytes k σ h rest r d stop =
     let same = read_at r.phase σ h r.stands in
     subst (λ ds. Gives dtd ks bytes ds (Some (kind, k))) same.1
-    (stuck ks bytes k r.phase rest r.within r.fed (subst (AllFaultless ks) (sym same.0) r.faultless) d stop)
+    (stuck ks bytes k r.phase rest r.within r.fed (subst (AllFaultless dtd ks) (sym same.0) r.faultless) d stop)
 
 pub stops_at_byte : StopsAtByte
 stops_at_byte ks bytes k σ h b rest r d stop =
@@ -207,7 +207,7 @@ stuck_behind : (ks : List (List ℕ)) (bytes : List ℕ) (k : ℕ) (σ : Spot) (
 stuck_behind ks bytes k σ h xs rest ψ r d on signs read stop =
     let (le, front, behind) = over bytes k xs rest r.within d in
     subst (λ ds. Gives dtd ks bytes ds (Some (kind, k + length xs))) read
-    (stuck ks bytes (k + length xs) ψ rest le (fed_over bytes k xs rest r.phase ψ r.within r.fed d on) (subst (AllFaultless ks) (sym signs) r.faultless) behind stop)
+    (stuck ks bytes (k + length xs) ψ rest le (fed_over bytes k xs rest r.phase ψ r.within r.fed d on) (subst (AllFaultless dtd ks) (sym signs) r.faultless) behind stop)
 
 -- words
 word_more : (f : Fixed) (xs : List ℕ) (c : ℕ) (left : List ℕ) → word_on f (xs ++ (c ∷ left)) ≡ word f (xs ++ (c ∷ left))

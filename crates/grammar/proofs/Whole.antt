@@ -7,9 +7,9 @@ use Rattle.grammar.specs.Notations.Notation.{dtd}
 use Rattle.grammar.specs.Declarations.{Declaration, Sign, IsText, AreDeclarations, all_signs}
 use Rattle.grammar.specs.Declarations.Sign.{element, declared, empty_word, any_word, pcdata_word, inner, ends}
 use Rattle.names.specs.Numbering.{is_known, known_after}
-use Rattle.grammar.specs.Faults.{LongestStart, SignStands, Repeats, Beyond, NameBeyond, PartsBeyond, parts_of, names_among, begun, open_groups, is_declared, Cause, Gives}
+use Rattle.grammar.specs.Faults.{LongestStart, SignStands, Repeats, Beyond, NameBeyond, PartsBeyond, parts_of, names_among, begun, open_groups, is_declared, Cause, Gives, Faultless, AllFaultless}
 use Rattle.grammar.specs.Faults.Cause.{kind, again, beyond}
-use Rattle.grammar.specs.Machine.{Spot, spelled, go, goes, Phase, feeds, first, Accepts, Stops, Met, stop_of, is_outside, is_end, is_accepted, read_by, signs_by, Faultless, AllFaultless, GivesSome, GivesFront}
+use Rattle.grammar.specs.Machine.{Spot, spelled, go, goes, Phase, feeds, first, Accepts, Stops, Met, stop_of, is_outside, is_end, is_accepted, read_by, signs_by, GivesSome, GivesFront}
 use Rattle.grammar.specs.Machine.Spot.{outside}
 use Rattle.grammar.specs.Machine.Phase.{at}
 use Rattle.grammar.proofs.Signs.{Good, Sound, go_sound, SignsFit, SignsFit-parts, no_spot, goes_none, all_go, fit_all}
@@ -161,18 +161,18 @@ beyond_decided ks ss s fit = inr (λ x. x)
 -- the first sign at fault
 abbrev Verdict : List (List ℕ) → List Sign → Type 0
 Verdict ks us =
-    AllFaultless ks us
-    ⊎ ((ss : List Sign) × (s : Sign) × (more : List Sign) × (us ≡ (ss ++ (s ∷ [])) ++ more) × AllFaultless ks ss
+    AllFaultless dtd ks us
+    ⊎ ((ss : List Sign) × (s : Sign) × (more : List Sign) × (us ≡ (ss ++ (s ∷ [])) ++ more) × AllFaultless dtd ks ss
     × (Repeats ss s ⊎ ((Repeats ss s → ⊥) × Beyond dtd ks ss s)))
 
-walk : (ks : List (List ℕ)) (rest ss : List Sign) → AllFaultless ks ss → SignsFit (ss ++ rest) → Verdict ks (ss ++ rest)
-walk ks [] ss all fit = inl (subst (AllFaultless ks) (sym (append-nil ss)) all)
+walk : (ks : List (List ℕ)) (rest ss : List Sign) → AllFaultless dtd ks ss → SignsFit (ss ++ rest) → Verdict ks (ss ++ rest)
+walk ks [] ss all fit = inl (subst (AllFaultless dtd ks) (sym (append-nil ss)) all)
 walk ks (s ∷ rest) ss all fit =
     judged (repeats_decided ss s) (beyond_decided ks ss s (SignsFit-parts (ss ++ (s ∷ [])) rest (subst SignsFit (sym (append_assoc ss (s ∷ []) rest)) fit)).0)
     (λ one. subst (Verdict ks) (append_assoc ss (s ∷ []) rest)
     (walk ks rest (ss ++ (s ∷ [])) ((faultless_grows ks).1 ss s all one) (subst SignsFit (sym (append_assoc ss (s ∷ []) rest)) fit)))
   where
-    judged : Decided (Repeats ss s) → Decided (Beyond dtd ks ss s) → (Faultless ks ss s → Verdict ks (ss ++ (s ∷ rest))) → Verdict ks (ss ++ (s ∷ rest))
+    judged : Decided (Repeats ss s) → Decided (Beyond dtd ks ss s) → (Faultless dtd ks ss s → Verdict ks (ss ++ (s ∷ rest))) → Verdict ks (ss ++ (s ∷ rest))
     judged (inl r) b on = inr (ss, s, rest, sym (append_assoc ss (s ∷ []) rest), all, inl r)
     judged (inr new) (inl b) on = inr (ss, s, rest, sym (append_assoc ss (s ∷ []) rest), all, inr (new, b))
     judged (inr new) (inr in_it) on = on (new, in_it)
@@ -181,7 +181,7 @@ walk ks (s ∷ rest) ss all fit =
 abbrev Given : List (List ℕ) → List ℕ → Type 0
 Given ks bytes = (ds : List Declaration) × (a : Option (Cause × ℕ)) × Gives dtd ks bytes ds a
 
-by_sign : (ks : List (List ℕ)) (bytes : List ℕ) (q : ℕ) (ss : List Sign) (s : Sign) → Met bytes q ss s → AllFaultless ks ss
+by_sign : (ks : List (List ℕ)) (bytes : List ℕ) (q : ℕ) (ss : List Sign) (s : Sign) → Met bytes q ss s → AllFaultless dtd ks ss
     → Repeats ss s ⊎ ((Repeats ss s → ⊥) × Beyond dtd ks ss s) → Given ks bytes
 by_sign ks bytes q ss s (φ, σ, h, rest, le, e, st, read, r, some, fit, d, well) all bad =
     either (gives_sign ks bytes q ss s φ (φ, σ, h, rest, le, e, st, read, r, some, fit, d, well) e all) bad
@@ -203,13 +203,13 @@ accepted_whole bytes n ds φ (le, some, stop) (g, e) k = either (cases_lt n (len
         let same : take n bytes ≡ bytes = take_all n bytes most in
         ap (λ x. elim x [ None ↦ signs_by φ | Some ψ ↦ signs_by ψ ]) (sym k ∙ ap (λ x. feeds x first) same ∙ e)
 
-by_end : (ks : List (List ℕ)) (bytes : List ℕ) (n : ℕ) (φ : Phase) → Stops bytes n → feeds (take n bytes) first ≡ Some φ → AllFaultless ks (signs_by φ) → Given ks bytes
+by_end : (ks : List (List ℕ)) (bytes : List ℕ) (n : ℕ) (φ : Phase) → Stops bytes n → feeds (take n bytes) first ≡ Some φ → AllFaultless dtd ks (signs_by φ) → Given ks bytes
 by_end ks bytes n φ stops e all = either (is_accepted bytes) refl
   where
     either : (t : Bool) → is_accepted bytes ≡ t → Given ks bytes
     either true k =
         let (ds, g, a) = run_ended (feeds bytes first) k in
-        (ds, None, gives_all ks bytes ds (g, a) (subst (AllFaultless ks) (accepted_whole bytes n ds φ stops (g, a) e) all))
+        (ds, None, gives_all ks bytes ds (g, a) (subst (AllFaultless dtd ks) (accepted_whole bytes n ds φ stops (g, a) e) all))
     either false k = (
       read_by φ,
       Some (kind, n),
@@ -240,10 +240,10 @@ abbrev Front : List Declaration → List Declaration → Type 0
 Front es ds = (more : List Declaration) × (ds ≡ es ++ more)
 
 behind : (ks : List (List ℕ)) (bytes : List ℕ) (m q : ℕ) (es : List Declaration) (ss : List Sign) (s : Sign) → m ≤ length bytes → IsText dtd (take m bytes) es
-    → AllFaultless ks (all_signs es) → SignStands dtd bytes q ss s → Repeats ss s ⊎ Beyond dtd ks ss s → m ≤ q
+    → AllFaultless dtd ks (all_signs es) → SignStands dtd bytes q ss s → Repeats ss s ⊎ Beyond dtd ks ss s → m ≤ q
 behind ks bytes m q es ss s le t all h bad = either (cases_lt q m) (complete (take m bytes) es t)
   where
-    faulty : Faultless ks ss s → Repeats ss s ⊎ Beyond dtd ks ss s → ⊥
+    faulty : Faultless dtd ks ss s → Repeats ss s ⊎ Beyond dtd ks ss s → ⊥
     faulty f (inl x) = f.0 x
     faulty f (inr x) = f.1 x
 
@@ -275,14 +275,14 @@ gives_front ks bytes m es ds (Some (beyond, q)) le t all g =
 -- judged sign by sign
 abbrev pub EachFaultless : List (List ℕ) → List Sign → List Sign → Type 0
 EachFaultless ks ss [] = Unit {0}
-EachFaultless ks ss (s ∷ rest) = Faultless ks ss s × EachFaultless ks (ss ++ (s ∷ [])) rest
+EachFaultless ks ss (s ∷ rest) = Faultless dtd ks ss s × EachFaultless ks (ss ++ (s ∷ [])) rest
 
-judged_on : (ks : List (List ℕ)) (rest ss : List Sign) → AllFaultless ks ss → EachFaultless ks ss rest → AllFaultless ks (ss ++ rest)
-judged_on ks [] ss all h = subst (AllFaultless ks) (sym (append-nil ss)) all
+judged_on : (ks : List (List ℕ)) (rest ss : List Sign) → AllFaultless dtd ks ss → EachFaultless ks ss rest → AllFaultless dtd ks (ss ++ rest)
+judged_on ks [] ss all h = subst (AllFaultless dtd ks) (sym (append-nil ss)) all
 judged_on ks (s ∷ rest) ss all h =
-    subst (AllFaultless ks) (append_assoc ss (s ∷ []) rest) (judged_on ks rest (ss ++ (s ∷ [])) ((faultless_grows ks).1 ss s all h.0) h.1)
+    subst (AllFaultless dtd ks) (append_assoc ss (s ∷ []) rest) (judged_on ks rest (ss ++ (s ∷ [])) ((faultless_grows ks).1 ss s all h.0) h.1)
 
-pub all_judged : (ks : List (List ℕ)) (us : List Sign) → EachFaultless ks [] us → AllFaultless ks us
+pub all_judged : (ks : List (List ℕ)) (us : List Sign) → EachFaultless ks [] us → AllFaultless dtd ks us
 all_judged ks us h = judged_on ks us [] (faultless_grows ks).0 h
 
 pub short_name : (ks : List (List ℕ)) (ss : List Sign) (n : List ℕ) → length n ≤ 32 → length (known_after ks (names_among ss)) < 64 → NameBeyond ks ss n → ⊥

@@ -89,6 +89,13 @@ Beyond ν ks ss (inner opens) = 16 ≤ open_groups zero ss
 Beyond ν ks ss ends = PartsBeyond (ss ++ (ends ∷ []))
 Beyond ν ks ss s = ⊥
 
+-- a sign that is not at fault, and signs of which none is: that asks for no place
+abbrev pub Faultless : Notation → List (List ℕ) → List Sign → Sign → Type 0
+Faultless ν ks ss s = (Repeats ss s → ⊥) × (Beyond ν ks ss s → ⊥)
+
+abbrev pub AllFaultless : Notation → List (List ℕ) → List Sign → Type 0
+AllFaultless ν ks us = (ss : List Sign) (s : Sign) (more : List Sign) → us ≡ (ss ++ (s ∷ [])) ++ more → Faultless ν ks ss s
+
 pub data Cause : Type 0 where
   kind : Cause
   again : Cause

@@ -12,7 +12,7 @@ use Rattle.grammar.specs.Notations.Notation.{dtd}
 use Rattle.grammar.specs.Declarations.{Content, Declaration, Sign, inners, alternatives, content_signs, all_signs, sign_bytes, IsText}
 use Rattle.grammar.specs.Declarations.Content.{none, whatever, text, children}
 use Rattle.grammar.specs.Declarations.Sign.{element, declared, empty_word, any_word, pcdata_word, inner, ends}
-use Rattle.grammar.specs.Faults.{Begins, LongestStart, EndsWell, SignStands, Repeats, Beyond, Cause, FaultAt, EndBefore, Gives}
+use Rattle.grammar.specs.Faults.{Begins, LongestStart, EndsWell, SignStands, Repeats, Beyond, Cause, FaultAt, EndBefore, Gives, Faultless, AllFaultless}
 use Rattle.grammar.specs.Faults.Cause.{kind, again, beyond}
 
 -- where reading stands behind a sign: the declarations that have ended, the name of the one that is read, and how far it is
@@ -395,30 +395,23 @@ SignsRead =
     (bytes : List ℕ) (q n : ℕ) (ss : List Sign) (s : Sign) (φ : Phase) → SignStands dtd bytes q ss s → q + length (sign_bytes dtd s) ≤ n → n ≤ length bytes
     → feeds (take n bytes) first ≡ Some φ → (more : List Sign) × (signs_by φ ≡ (ss ++ (s ∷ [])) ++ more)
 
--- no sign of these is at fault: that asks for no place
-abbrev pub Faultless : List (List ℕ) → List Sign → Sign → Type 0
-Faultless ks ss s = (Repeats ss s → ⊥) × (Beyond dtd ks ss s → ⊥)
-
-abbrev pub AllFaultless : List (List ℕ) → List Sign → Type 0
-AllFaultless ks us = (ss : List Sign) (s : Sign) (more : List Sign) → us ≡ (ss ++ (s ∷ [])) ++ more → Faultless ks ss s
-
 -- which grows with each sign
 abbrev pub FaultlessGrows : Type 0
 FaultlessGrows =
-    (ks : List (List ℕ)) → AllFaultless ks [] × ((us : List Sign) (s : Sign) → AllFaultless ks us → Faultless ks us s → AllFaultless ks (us ++ (s ∷ [])))
+    (ks : List (List ℕ)) → AllFaultless dtd ks [] × ((us : List Sign) (s : Sign) → AllFaultless dtd ks us → Faultless dtd ks us s → AllFaultless dtd ks (us ++ (s ∷ [])))
 
 -- what a text gives, from the machine: all; a byte that is refused, or the text's end; a sign
 abbrev pub GivesAll : Type 0
-GivesAll = (ks : List (List ℕ)) (bytes : List ℕ) (ds : List Declaration) → Accepts bytes ds → AllFaultless ks (all_signs ds) → Gives dtd ks bytes ds None
+GivesAll = (ks : List (List ℕ)) (bytes : List ℕ) (ds : List Declaration) → Accepts bytes ds → AllFaultless dtd ks (all_signs ds) → Gives dtd ks bytes ds None
 
 abbrev pub GivesKind : Type 0
 GivesKind =
     (ks : List (List ℕ)) (bytes : List ℕ) (n : ℕ) (φ : Phase) → ((ds : List Declaration) → Accepts bytes ds → ⊥) → Stops bytes n
-    → feeds (take n bytes) first ≡ Some φ → AllFaultless ks (signs_by φ) → Gives dtd ks bytes (read_by φ) (Some (kind, n))
+    → feeds (take n bytes) first ≡ Some φ → AllFaultless dtd ks (signs_by φ) → Gives dtd ks bytes (read_by φ) (Some (kind, n))
 
 abbrev pub GivesSign : Type 0
 GivesSign =
-    (ks : List (List ℕ)) (bytes : List ℕ) (q : ℕ) (ss : List Sign) (s : Sign) (φ : Phase) → Met bytes q ss s → feeds (take q bytes) first ≡ Some φ → AllFaultless ks ss
+    (ks : List (List ℕ)) (bytes : List ℕ) (q : ℕ) (ss : List Sign) (s : Sign) (φ : Phase) → Met bytes q ss s → feeds (take q bytes) first ≡ Some φ → AllFaultless dtd ks ss
     → (Repeats ss s → Gives dtd ks bytes (read_by φ) (Some (again, q)))
     × ((Repeats ss s → ⊥) → Beyond dtd ks ss s → Gives dtd ks bytes (read_by φ) (Some (beyond, q)))
 
@@ -456,4 +449,4 @@ GivesSome = (ks : List (List ℕ)) (bytes : List ℕ) → (ds : List Declaration
 abbrev pub GivesFront : Type 0
 GivesFront =
     (ks : List (List ℕ)) (bytes : List ℕ) (m : ℕ) (es ds : List Declaration) (a : Option (Cause × ℕ)) → m ≤ length bytes → IsText dtd (take m bytes) es
-    → AllFaultless ks (all_signs es) → Gives dtd ks bytes ds a → (more : List Declaration) × (ds ≡ es ++ more)
+    → AllFaultless dtd ks (all_signs es) → Gives dtd ks bytes ds a → (more : List Declaration) × (ds ≡ es ++ more)

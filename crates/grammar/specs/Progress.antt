@@ -3,9 +3,9 @@ use Rattle.std.specs.Prelude.{◌≡◌, ℕ, ◌+◌, ◌<◌, ◌≤◌, Bool,
 use Rattle.grammar.specs.Bytes.{is_char, IsSomeSpace, Bit, AreBits, bits, comment, NameEnds}
 use Rattle.grammar.specs.Notations.Notation.{dtd}
 use Rattle.grammar.specs.Declarations.{Declaration, Sign, all_signs, sign_bytes, IsText}
-use Rattle.grammar.specs.Faults.{EndsWell, Repeats, Beyond, Cause, Gives}
+use Rattle.grammar.specs.Faults.{EndsWell, Repeats, Beyond, Cause, Gives, Faultless, AllFaultless}
 use Rattle.grammar.specs.Faults.Cause.{kind, again, beyond}
-use Rattle.grammar.specs.Machine.{Spot, go, spelled, tight, Fixed, word_before, word_sign, Phase, refused, feed_at, feeds, first, SignFits, Stands, is_outside, spot_read, Faultless, AllFaultless}
+use Rattle.grammar.specs.Machine.{Spot, go, spelled, tight, Fixed, word_before, word_sign, Phase, refused, feed_at, feeds, first, SignFits, Stands, is_outside, spot_read}
 use Rattle.grammar.specs.Machine.Spot.{outside}
 use Rattle.grammar.specs.Machine.Phase.{naming}
 
@@ -21,7 +21,7 @@ pub record StandsAt (ks : List (List ℕ)) (bytes : List ℕ) (k : ℕ) (σ : Sp
   pub fed : feeds (take k bytes) first ≡ Some phase
   pub stands : Stands phase σ h
   pub ends : Ends phase (drop k bytes)
-  pub faultless : AllFaultless ks (spelled σ)
+  pub faultless : AllFaultless dtd ks (spelled σ)
 
 -- it begins before all bytes
 abbrev pub StandsFirst : Type 0
@@ -41,7 +41,7 @@ PassesComment =
 abbrev pub PassesSign : Type 0
 PassesSign =
     (ks : List (List ℕ)) (bytes : List ℕ) (k : ℕ) (σ : Spot) (h : Bool) (s : Sign) (τ : Spot) (rest : List ℕ) → StandsAt ks bytes k σ h
-    → refused h σ s ≡ false → go σ s ≡ Some τ → SignFits s → drop k bytes ≡ sign_bytes dtd s ++ rest → EndsWell s rest → Faultless ks (spelled σ) s
+    → refused h σ s ≡ false → go σ s ≡ Some τ → SignFits s → drop k bytes ≡ sign_bytes dtd s ++ rest → EndsWell s rest → Faultless dtd ks (spelled σ) s
     → StandsAt ks bytes (k + length (sign_bytes dtd s)) τ false
 
 -- a sign that is at fault is the first fault
@@ -112,5 +112,5 @@ GivesMore =
 abbrev pub StandsBetween : Type 0
 StandsBetween =
     (ks : List (List ℕ)) (bytes : List ℕ) (k : ℕ) (ds : List Declaration)
-    → ((h : Bool) → StandsAt ks bytes k (outside ds) h → IsText dtd (take k bytes) ds × AllFaultless ks (all_signs ds))
-    × (k ≤ length bytes → IsText dtd (take k bytes) ds → AllFaultless ks (all_signs ds) → (h : Bool) × StandsAt ks bytes k (outside ds) h)
+    → ((h : Bool) → StandsAt ks bytes k (outside ds) h → IsText dtd (take k bytes) ds × AllFaultless dtd ks (all_signs ds))
+    × (k ≤ length bytes → IsText dtd (take k bytes) ds → AllFaultless dtd ks (all_signs ds) → (h : Bool) × StandsAt ks bytes k (outside ds) h)
