@@ -1,4 +1,6 @@
 pub mod Bytes
+pub mod Causes
 pub mod Contents
 pub mod Cursors
 pub mod Fronts
+pub mod Progress

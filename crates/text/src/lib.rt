@@ -4,5 +4,7 @@
 
 mod content;
 mod cursor;
+mod elements;
+mod fault;
 mod join;
 mod mark;

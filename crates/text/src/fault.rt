@@ -1,0 +1,69 @@
+//! What is wrong with a text, and where.
+
+ghost use Rattle.std.specs.Prelude.{◌≡◌};
+ghost use Rattle.text.specs.Causes.{cause_number};
+
+/// Why a text cannot be read on. docs/TEXTS.md says when each comes.
+#[derive(Clone, Copy, PartialEq, Eq)]
+pub enum TextCause {
+    /// 14: no text of element declarations begins with what stands up to here and goes on so
+    NotDeclarations,
+    /// 15: ANY stands as content
+    AnyContent,
+    /// 15: the name is declared in this text already
+    DeclaredAgain,
+    /// 16: a name of over 32 bytes
+    LongName,
+    /// 16: a name that is not yet known, where 64 are
+    TooManyNames,
+    /// 16: a declaration begins where the text has had 32
+    TooManyDeclarations,
+    /// 16: a group begins where 16 are open
+    TooDeep,
+    /// 16: the declaration that ends has over 256 parts
+    TooManyParts,
+}
+
+/// A cause, and the place at which it stands, in bytes from 0.
+#[derive(Clone, Copy)]
+pub struct PlacedCause {
+    pub cause: TextCause,
+    pub place: usize,
+}
+
+/// The first fault of a text.
+#[derive(Clone, Copy)]
+pub struct TextFault {
+    pub cause: TextCause,
+    /// the place at which it stands, in bytes from 0
+    pub place: usize,
+    /// how many texts were begun before this one, counted up to 65,535
+    pub texts: u16,
+    /// how many declarations of this text came before
+    pub declarations: u32,
+}
+
+impl TextCause {
+    /// The cause, at a place.
+    pub fn at(self, place: usize) -> PlacedCause
+        ensures cause { result.cause ≡ self }
+        ensures place { result.place ≡ place }
+    {
+        PlacedCause { cause: self, place }
+    }
+
+    /// The number of the question that gets a no: 14, 15 or 16.
+    pub fn number(&self) -> u32
+        ensures { result ≡ cause_number self.now }
+    {
+        match self {
+            TextCause::NotDeclarations => 14,
+            TextCause::AnyContent | TextCause::DeclaredAgain => 15,
+            TextCause::LongName
+            | TextCause::TooManyNames
+            | TextCause::TooManyDeclarations
+            | TextCause::TooDeep
+            | TextCause::TooManyParts => 16,
+        }
+    }
+}
