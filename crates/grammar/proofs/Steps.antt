@@ -8,24 +8,25 @@ use Rattle.std.proofs.Math.Seq.{take-append_seam, drop-append_seam, take-add}
 use Rattle.grammar.specs.Bytes.{is_char, IsSomeSpace, Bit, AreBits, bits, comment, NameEnds}
 use Rattle.grammar.specs.Bytes.Between.{remark}
 use Rattle.grammar.specs.Notations.Notation.{dtd}
-use Rattle.grammar.specs.Declarations.{Declaration, Sign, all_signs, sign_bytes}
-use Rattle.grammar.specs.Faults.{EndsWell, Gives, AllFaultless}
+use Rattle.grammar.specs.Declarations.{Declaration, Sign, AreDeclarations, all_signs, sign_bytes}
+use Rattle.grammar.specs.Declarations.Sign.{ends}
+use Rattle.grammar.specs.Faults.{EndsWell, SignStands, PartsBeyond, parts_of, Gives, AllFaultless}
 use Rattle.grammar.specs.Faults.Cause.{kind, again, beyond}
 use Rattle.grammar.specs.Lists.State.{want}
-use Rattle.grammar.specs.Machine.{Spot, spelled, tight, refused, Named, name_before, name_sign, Fixed, word_before, word_sign, Phase, word_on, feed_at, feed, feeds, first, Stands, Accepts, is_outside, is_end, spot_read, read_by, signs_by, Met}
+use Rattle.grammar.specs.Machine.{Spot, spelled, SignFits, go, goes, tight, refused, Named, name_before, name_sign, Fixed, word_before, word_sign, Phase, word_on, feed_at, feed, feeds, first, Stands, Accepts, is_outside, is_end, spot_read, read_by, signs_by, Met}
 use Rattle.grammar.specs.Machine.Spot.{outside, titled, kids}
 use Rattle.grammar.specs.Machine.Named.{title, kid, mate}
 use Rattle.grammar.specs.Machine.Fixed.{the_element, the_empty, the_any, the_pcdata}
 use Rattle.grammar.specs.Machine.Phase.{at, naming, word, angle, bang, bar, inside, dash, dashes}
 use Rattle.grammar.specs.Progress.{Ends, StandsAt, NotNext, NoCharNext, StandsFirst, PassesSpace, PassesComment, PassesSign, SignAtFault, StopsAtByte, StopsAtEnd, StopsInWord, StopsBeforeComment, StopsInComment, EndsWhole, GivesMore, StandsBetween}
-use Rattle.grammar.proofs.Signs.{Good, Sound, go_sound}
+use Rattle.grammar.proofs.Signs.{Good, Sound, SignsFit, SignsFit-append, go_sound, all_go, fit_all}
 use Rattle.grammar.proofs.Spelt.{Spelt, feeds_none}
 use Rattle.grammar.proofs.Fed.{feeds_on, feed_stands, blanks_fed, piece_fed, bits_fed, sign_fed, outside_at, same_byte}
 use Rattle.grammar.proofs.Text.{led, complete, sound}
-use Rattle.grammar.proofs.Places.{stands_spelt}
+use Rattle.grammar.proofs.Places.{first_spot, signs_met, stands_spelt}
 use Rattle.grammar.proofs.Order.{head_same, tail_same, end_of, end_is, name_spells}
 use Rattle.grammar.proofs.Gives.{faultless_grows, gives_all, gives_kind, gives_sign}
-use Rattle.grammar.proofs.Whole.{gives_some, gives_front}
+use Rattle.grammar.proofs.Whole.{few_parts, gives_some, gives_front}
 
 -- over the bytes xs
 abbrev pub Over : List ℕ → ℕ → List ℕ → List ℕ → Type 0
@@ -105,7 +106,7 @@ passes_comment ks bytes k ds h us rest r are d = record {
 }
 
 -- over a sign
-good_at : (ks : List (List ℕ)) (bytes : List ℕ) (k : ℕ) (σ : Spot) (h : Bool) → StandsAt ks bytes k σ h → Good σ
+pub good_at : (ks : List (List ℕ)) (bytes : List ℕ) (k : ℕ) (σ : Spot) (h : Bool) → StandsAt ks bytes k σ h → Good σ
 good_at ks bytes k σ h r =
     let (ts, gap, base, g, t, w) = stands_spelt (take k bytes) r.phase σ h (led (take k bytes) (Some r.phase) r.fed) r.stands in
     base.0
@@ -151,6 +152,41 @@ sign_at_fault ks bytes k σ h s τ rest r may e fit d well =
       λ x. subst (λ ds. Gives dtd ks bytes ds (Some (again, k))) same (told.0 x),
       λ new x. subst (λ ds. Gives dtd ks bytes ds (Some (beyond, k))) same (told.1 new x),
     )
+
+-- the signs behind it, and that it stands
+pub spelled_on : (ks : List (List ℕ)) (bytes : List ℕ) (k : ℕ) (σ : Spot) (h : Bool) (s : Sign) (τ : Spot) → StandsAt ks bytes k σ h → go σ s ≡ Some τ
+    → spelled τ ≡ spelled σ ++ (s ∷ [])
+spelled_on ks bytes k σ h s τ r e =
+    let sound : Sound σ s (Some τ) = subst (Sound σ s) e (go_sound σ s (good_at ks bytes k σ h r)) in
+    sound.0
+
+pub sign_stands : (ks : List (List ℕ)) (bytes : List ℕ) (k : ℕ) (σ : Spot) (h : Bool) (s : Sign) (τ : Spot) (rest : List ℕ) → StandsAt ks bytes k σ h
+    → refused h σ s ≡ false → go σ s ≡ Some τ → SignFits s → drop k bytes ≡ sign_bytes dtd s ++ rest → EndsWell s rest → SignStands dtd bytes k (spelled σ) s
+sign_stands ks bytes k σ h s τ rest r may e fit d well =
+    (signs_met bytes k (spelled σ) s).1 (r.phase, σ, h, rest, r.within, r.fed, r.stands, refl, may, ap is_some e, fit, d, well)
+
+-- where a declaration ends, its parts are too many exactly where they are over 256
+signs_fit : (ks : List (List ℕ)) (bytes : List ℕ) (k : ℕ) (σ : Spot) (h : Bool) → StandsAt ks bytes k σ h → SignsFit (spelled σ)
+signs_fit ks bytes k σ h r =
+    let (ts, gap, (good, read, fits, are, last), g, t, w) = stands_spelt (take k bytes) r.phase σ h (led (take k bytes) (Some r.phase) r.fed) r.stands in
+    subst SignsFit read are
+
+pub ended_beyond : (ks : List (List ℕ)) (bytes : List ℕ) (k : ℕ) (σ : Spot) (h : Bool) (ds : List Declaration) (d : Declaration) → StandsAt ks bytes k σ h
+    → go σ ends ≡ Some (outside (ds ++ (d ∷ [])))
+    → (256 < length (parts_of [] d) → PartsBeyond (spelled σ ++ (ends ∷ []))) × (length (parts_of [] d) ≤ 256 → PartsBeyond (spelled σ ++ (ends ∷ [])) → ⊥)
+ended_beyond ks bytes k σ h ds d r e = (
+  (λ big. (ds, d, sym read, are, big)),
+  (λ small. few_parts (spelled σ ++ (ends ∷ [])) ds d (ap (λ ss. goes ss first_spot) (sym read) ∙ all_go (ds ++ (d ∷ [])) [] are) small),
+)
+  where
+    sound_end : Sound σ ends (Some (outside (ds ++ (d ∷ []))))
+    sound_end = subst (Sound σ ends) e (go_sound σ ends (good_at ks bytes k σ h r))
+
+    read : all_signs (ds ++ (d ∷ [])) ≡ spelled σ ++ (ends ∷ [])
+    read = sound_end.0
+
+    are : AreDeclarations (ds ++ (d ∷ []))
+    are = fit_all (ds ++ (d ∷ [])) sound_end.1 (subst SignsFit (sym read) (SignsFit-append (spelled σ) (ends ∷ []) (signs_fit ks bytes k σ h r) (tt, tt)))
 
 -- the end
 whole_at : (bytes : List ℕ) (k : ℕ) → drop k bytes ≡ [] → take k bytes ≡ bytes
