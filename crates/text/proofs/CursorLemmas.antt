@@ -6,7 +6,7 @@ use Rattle.std.proofs.lemmas.List.{length-take-le}
 use Rattle.std.proofs.Math.Seq.{take-append_seam, drop-append_seam}
 use Rattle.std.proofs.lemmas.Bool.{false≢true}
 use Rattle.std.proofs.lemmas.Bool.Decides.{nat_tests}
-use Rattle.text.specs.Bytes.{Each, is_blank, begins_name, goes_in_name, IsSomeSpace, IsSpace, IsName, NameEnds}
+use Rattle.grammar.specs.Bytes.{Each, is_blank, begins_name, goes_in_name, IsSomeSpace, IsSpace, IsName, NameEnds}
 use Rattle.text.specs.declared.cursor.Cursor.{Cursor}
 use Rattle.text.specs.Cursors.{rest_of, Moved, Stayed, BlanksRead, NameRead}
 use Rattle.text.specs.Fronts.{Past, RunIs}

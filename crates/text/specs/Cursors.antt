@@ -1,7 +1,7 @@
 -- What is left of a text, and what a step of reading takes from it. Assumes nothing.
 use Rattle.std.specs.Prelude.{◌≡◌, ℕ, ◌+◌, ◌⊎◌, Bool, true, false, List, [], ◌∷◌, ◌++◌, length, drop, codes, Some, None, Ok, Err, Option, Result}
 use Rattle.std.specs.Borrow.{Bor}
-use Rattle.text.specs.Bytes.{is_blank, begins_name, IsName, IsSomeSpace, NameEnds, AreBits, bits, comment}
+use Rattle.grammar.specs.Bytes.{is_blank, begins_name, IsName, IsSomeSpace, NameEnds, Bit, AreBits, bits, comment}
 use Rattle.text.specs.Fronts.{Past, Differs, Inside, is_mark, mark_bytes}
 use Rattle.text.specs.declared.cursor.Cursor.{Cursor}
 use Rattle.text.specs.declared.mark.Mark.{Mark}
@@ -44,7 +44,7 @@ MarkRead old None new = Stayed old new × Past is_mark (rest_of new)
 
 -- a comment has been read; or none begins there; or one begins, and does not go on as a comment does from a place on
 abbrev pub CommentRead : Cursor → Result Bool ℕ → Cursor → Type 0
-CommentRead old (Ok true) new = (us : _) × AreBits us × Moved old (comment (bits us)) new
+CommentRead old (Ok true) new = (us : List Bit) × AreBits us × Moved old (comment (bits us)) new
 CommentRead old (Ok false) new = Stayed old new × ((rest : List ℕ) → rest_of new ≡ codes "<!-" ++ rest → ⊥)
 CommentRead old (Err place) new =
     ((rest : List ℕ) × (rest_of old ≡ codes "<!-" ++ rest) × Differs (codes "-") rest × (place ≡ old.at + 3))

@@ -1,7 +1,7 @@
 -- What stands at the front of a text. Assumes nothing.
 use Rattle.std.specs.Prelude.{◌≡◌, ℕ, ◌+◌, ◌≤◌, ◌||◌, Bool, true, false, List, [], ◌∷◌, ◌++◌, length, take, drop, ◌==◌, zip, codes, Some, None, Ok, Err, Option, Result}
 use Rattle.std.specs.List.{prefix_len}
-use Rattle.text.specs.Bytes.{Each, is_char, Bit, AreBits, bits}
+use Rattle.grammar.specs.Bytes.{Each, is_char, Bit, AreBits, bits}
 use Rattle.text.specs.declared.mark.Mark.{Mark}
 use Rattle.text.specs.declared.mark.Mark.TheVariants.{Optional, Repeated, Any}
 

@@ -4,6 +4,8 @@
 
 mod content;
 mod cursor;
+mod dtd;
+mod element;
 mod elements;
 mod fault;
 mod join;

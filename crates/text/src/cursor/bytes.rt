@@ -2,7 +2,7 @@
 
 ghost use Rattle.std.specs.Prelude.{◌≡◌};
 ghost use Rattle.std.specs.List.{prefix_len};
-ghost use Rattle.text.specs.Bytes.{is_blank as blank, begins_name as begins, goes_in_name as goes_in, is_char as commented};
+ghost use Rattle.grammar.specs.Bytes.{is_blank as blank, begins_name as begins, goes_in_name as goes_in, is_char as commented};
 ghost use Rattle.text.specs.Fronts.{agreed, Inside};
 
 /// Whether the byte is white space.

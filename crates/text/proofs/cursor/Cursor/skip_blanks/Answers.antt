@@ -1,5 +1,5 @@
 use Rattle.std.proofs.Common.{subst, sym, ap, ◌∙◌}
-use Rattle.text.specs.Bytes.{is_blank}
+use Rattle.grammar.specs.Bytes.{is_blank}
 use Rattle.text.specs.Fronts.{RunIs}
 use Rattle.text.specs.Cursors.{rest_of}
 use Rattle.text.proofs.Runs.{run_is}

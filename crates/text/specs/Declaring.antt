@@ -1,0 +1,161 @@
+-- What each step of reading a declaration leads to, as private contracts and proofs say it: no public promise rests on it. Assumes nothing.
+use Rattle.std.specs.Prelude.{◌≡◌, ℕ, ◌<◌, ◌≤◌, Bool, true, false, ◌==◌, List, [], ◌∷◌, ◌++◌, length, map, codes, Some, None, Ok, Err, Option, Result}
+use Rattle.parts.specs.declared.part.Part.{Part}
+use Rattle.models.specs.Written.{sheet}
+use Rattle.names.specs.Numbering.{known_after}
+use Rattle.grammar.specs.Bytes.{is_blank, begins_name}
+use Rattle.grammar.specs.Notations.Notation.{dtd}
+use Rattle.grammar.specs.Words.{Words}
+use Rattle.grammar.specs.Words.Words.{name, group}
+use Rattle.grammar.specs.Words.{Join as Spoken}
+use Rattle.grammar.specs.Words.Join.{alt, next, both}
+use Rattle.grammar.specs.Lists.{Left, State, put}
+use Rattle.grammar.specs.Lists.State.{want, got}
+use Rattle.grammar.specs.Declarations.{Content, Declaration, all_signs, words, alternated}
+use Rattle.grammar.specs.Declarations.Content.{none, whatever, text, children}
+use Rattle.grammar.specs.Meaning.{tree_of}
+use Rattle.grammar.specs.Faults.{Gives}
+use Rattle.grammar.specs.Machine.{Spot, spelled, Named, name_before, name_after, feed_at, spot_read, made}
+use Rattle.grammar.specs.Machine.Spot.{outside, opened, titled, kids, mixed, wanted, starless, grouped, full}
+use Rattle.grammar.specs.Machine.Named.{title, kid, mate}
+use Rattle.parts.specs.Stacks.{Kept}
+use Rattle.text.specs.Contents.{Made, made_of}
+use Rattle.text.specs.Cursors.{rest_of, WordRead}
+use Rattle.text.specs.Fronts.{Past, is_mark}
+use Rattle.text.specs.Progress.{ElementsAre, SymbolIs, CursorAt, Fails}
+use Rattle.text.specs.declared.cursor.Cursor.{Cursor}
+use Rattle.text.specs.declared.elements.Elements.{Elements}
+use Rattle.text.specs.declared.element.Element.{Element}
+use Rattle.text.specs.declared.fault.PlacedCause.{PlacedCause}
+use Rattle.text.specs.declared.fault.TextCause.TheVariants.{NotDeclarations}
+use Rattle.text.specs.declared.join.Join.{Join}
+use Rattle.text.specs.declared.join.Join.TheVariants as join
+
+-- the cursor stands at the spot, and the elements are those of its signs
+pub record ReadTo (ks : List (List ℕ)) (bytes : List ℕ) (σ : Spot) (h : Bool) (c : Cursor) (e : Elements) : Type 0 where
+  pub cursor : CursorAt ks bytes σ h c
+  pub elements : ElementsAre dtd ks (spelled σ) e
+
+-- a word has been read; or the text differs from it at a place
+abbrev pub WordTaken : Cursor → List ℕ → Result (Unit {0}) PlacedCause → Cursor → Type 0
+WordTaken old word (Ok u) new = WordRead old word (Ok u) new
+WordTaken old word (Err f) new = (f.cause ≡ NotDeclarations) × WordRead old word (Err f.place) new
+
+-- behind a sign no suffix follows, since it was looked for
+abbrev pub SuffixPast : Bool → List ℕ → Type 0
+SuffixPast true rest = Unit {0}
+SuffixPast false rest = Past is_mark rest
+
+-- what follows is neither white space nor a comment
+abbrev pub GapPast : List ℕ → Type 0
+GapPast text = Past is_blank text × ((rest : List ℕ) → text ≡ codes "<!-" ++ rest → ⊥)
+
+-- the gap before a declaration or the end has been read
+abbrev pub GapRead : List (List ℕ) → List ℕ → List Declaration → Result (Unit {0}) PlacedCause → Cursor → Type 0
+GapRead ks bytes ds (Ok u) c = ((h : Bool) × CursorAt ks bytes (outside ds) h c) × GapPast (rest_of c)
+GapRead ks bytes ds (Err f) c = Fails dtd ks bytes ds f
+
+-- a declaration begins, or the text ends
+abbrev pub Begun : List (List ℕ) → List ℕ → List Declaration → Result Bool PlacedCause → Cursor → Elements → Type 0
+Begun ks bytes ds (Ok true) c e = ReadTo ks bytes (opened ds) false c e
+Begun ks bytes ds (Ok false) c e = Gives dtd ks bytes ds None × ((h : Bool) × ReadTo ks bytes (outside ds) h c e)
+Begun ks bytes ds (Err f) c e = Fails dtd ks bytes ds f
+
+-- it has its name
+abbrev pub Titled : List (List ℕ) → List ℕ → List Declaration → Result Element PlacedCause → Cursor → Elements → Type 0
+Titled ks bytes ds (Ok el) c e = ReadTo ks bytes (titled ds el.name.now) false c e × SymbolIs el.name.now (Ok el.symbol) e
+Titled ks bytes ds (Err f) c e = Fails dtd ks bytes ds f
+
+-- a name within content
+abbrev pub IsChildName : Named → Type 0
+IsChildName (title ds) = ⊥
+IsChildName (kid ds n o l) = Unit {0}
+IsChildName (mate ds n ns) = Unit {0}
+
+-- where no name begins, the text stops
+abbrev pub WantsName : Spot → Bool → List ℕ → Type 0
+WantsName σ h [] = Unit {0}
+WantsName σ h (b ∷ rest) = begins_name b ≡ false → feed_at σ h b ≡ None
+
+abbrev pub ChildRead : List (List ℕ) → List ℕ → Named → Result ℕ PlacedCause → Cursor → Elements → Type 0
+ChildRead ks bytes a (Ok s) c e = (m : List ℕ) × ReadTo ks bytes (name_after a m) false c e × SymbolIs m (Ok s) e
+ChildRead ks bytes a (Err f) c e = Fails dtd ks bytes (spot_read (name_before a)) f
+
+-- the parts that were made are these, whatever names come to be known behind the known ones
+abbrev pub PartsFor : (List (List ℕ) → List Part) → Elements → Made → Type 0
+PartsFor parts e m = (more : List (List ℕ)) → m ≡ made_of (parts (known_after e.names more))
+
+-- the parts of what was read of a group: of the members before, without what joins the next one to them
+abbrev pub left_parts : List (List ℕ) → Left → List Part
+left_parts ks None = []
+left_parts ks (Some (a, j)) = sheet (tree_of ks a)
+
+abbrev pub outer_parts : List (List ℕ) → List Left → List Part
+outer_parts ks [] = []
+outer_parts ks (l ∷ o) = outer_parts ks o ++ left_parts ks l
+
+abbrev pub state_parts : State → List (List ℕ) → List Part
+state_parts (want o l) ks = outer_parts ks o ++ left_parts ks l
+state_parts (got o l w) ks = outer_parts ks o ++ (left_parts ks l ++ sheet (tree_of ks w))
+
+-- of mixed content: the names' choice
+abbrev pub mixed_parts : List (List ℕ) → List (List ℕ) → List Part
+mixed_parts [] ks = []
+mixed_parts (n ∷ ns) ks = sheet (tree_of ks (alternated (name n) ns))
+
+-- no names
+abbrev pub is_alone : List (List ℕ) → Bool
+is_alone [] = true
+is_alone (n ∷ ns) = false
+
+abbrev pub content_parts : Content → List (List ℕ) → List Part
+content_parts k ks = sheet (tree_of ks (words k))
+
+-- the spot at which the content k has ended, where its suffix was looked for
+abbrev pub Closes : List Declaration → List ℕ → Content → Spot → List ℕ → Type 0
+Closes ds n k (starless es m []) rest = (es ≡ ds) × (m ≡ n) × (k ≡ text [] false) × Past is_mark rest
+Closes ds n k (grouped es m v) rest = (es ≡ ds) × (m ≡ n) × (k ≡ children (group v)) × Past is_mark rest
+Closes ds n k (full es m c) rest = (es ≡ ds) × (m ≡ n) × (k ≡ c)
+Closes ds n k σ rest = ⊥
+
+-- the content has been read, and its parts made
+abbrev pub Ended : List (List ℕ) → List ℕ → List Declaration → List ℕ → Result (Unit {0}) PlacedCause → Cursor → Elements → Made → Type 0
+Ended ks bytes ds n (Ok u) c e m =
+    (k : Content) × (σ : Spot) × ReadTo ks bytes σ false c e × Closes ds n k σ (rest_of c) × PartsFor (content_parts k) e m
+Ended ks bytes ds n (Err f) c e m = Fails dtd ks bytes ds f
+
+-- what joins the members of a group
+abbrev pub join_of : Spoken → Join
+join_of alt = join.Choice
+join_of next = join.Sequence
+join_of both = join.Interleave
+
+abbrev pub left_join : Left → Option Join
+left_join None = None
+left_join (Some (a, j)) = Some (join_of j)
+
+-- the open groups, the innermost first
+abbrev pub GroupsAre : List Left → Kept (Option Join) → Type 0
+GroupsAre ls s = (s.waiting ≡ map left_join ls) × (length s.lent ≡ 16)
+
+-- a `(` has been read, or none stands there
+abbrev pub GroupOpened : List (List ℕ) → List ℕ → List Declaration → List ℕ → List Left → Left → Bool → Result Bool PlacedCause → Cursor → Elements → Kept (Option Join) → Type 0
+GroupOpened ks bytes ds n o l h (Ok true) c e s = ReadTo ks bytes (kids ds n (want (l ∷ o) None)) false c e × GroupsAre (None ∷ l ∷ o) s
+GroupOpened ks bytes ds n o l h (Ok false) c e s =
+    ReadTo ks bytes (kids ds n (want o l)) h c e × GroupsAre (l ∷ o) s × Past (λ b. b == 40) (rest_of c)
+GroupOpened ks bytes ds n o l h (Err f) c e s = Fails dtd ks bytes ds f
+
+-- another member is wanted, or the outermost group has ended
+abbrev pub GoneOn : List (List ℕ) → List ℕ → List Declaration → List ℕ → Result Bool PlacedCause → Cursor → Elements → Made → Kept (Option Join) → Type 0
+GoneOn ks bytes ds n (Ok true) c e m s =
+    (o : List Left) × (a : Words) × (j : Spoken) × ReadTo ks bytes (kids ds n (want o (Some (a, j)))) false c e
+    × GroupsAre (Some (a, j) ∷ o) s × PartsFor (state_parts (want o (Some (a, j)))) e m
+GoneOn ks bytes ds n (Ok false) c e m s =
+    (k : Content) × (σ : Spot) × ReadTo ks bytes σ false c e × Closes ds n k σ (rest_of c) × PartsFor (content_parts k) e m
+GoneOn ks bytes ds n (Err f) c e m s = Fails dtd ks bytes ds f
+
+-- the declaration has ended
+abbrev pub DeclarationEnded : List (List ℕ) → List ℕ → List Declaration → Declaration → Result (Unit {0}) PlacedCause → Cursor → Elements → Made → Type 0
+DeclarationEnded ks bytes ds d (Ok u) c e m =
+    ReadTo ks bytes (outside (ds ++ (d ∷ []))) false c e × ((ns : List (List ℕ)) → length (content_parts d.content ns) ≤ 256)
+DeclarationEnded ks bytes ds d (Err f) c e m = Fails dtd ks bytes ds f
