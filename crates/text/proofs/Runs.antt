@@ -13,3 +13,6 @@ run_step p x xs h false e = (omega arith, tt, e)
 pub run_is : (p : ℕ → Bool) (xs : List ℕ) → RunIs p xs (prefix_len p xs)
 run_is p [] = (omega arith, tt, tt)
 run_is p (x ∷ xs) = run_step p x xs (run_is p xs) (p x) refl
+
+pub run_of : (p : ℕ → Bool) (xs ys : List ℕ) (n : ℕ) → ys ≡ xs → n ≡ prefix_len p ys → RunIs p xs n
+run_of p xs ys n same count = subst (RunIs p xs) (sym (count ∙ ap (λ zs. prefix_len p zs) same)) (run_is p xs)
