@@ -1,17 +1,19 @@
 -- What a cursor's steps leave of the text. Assumes nothing.
-use Rattle.std.proofs.Common.{◌≡◌, ℕ, zero, suc, ◌+◌, ◌<◌, ◌≤◌, Bool, true, false, List, [], ◌∷◌, ◌++◌, length, take, drop, get_or, cond, refl, ap, sym, subst, ◌∙◌, arith, Some, None}
+use Rattle.std.proofs.Common.{◌≡◌, ℕ, zero, suc, ◌+◌, ◌<◌, ◌≤◌, Bool, true, false, List, [], ◌∷◌, ◌++◌, length, take, drop, get_or, cond, refl, ap, sym, subst, ◌∙◌, arith, Some, None, Ok, Err}
 use Rattle.std.specs.Prelude.{nat_lt}
 use Rattle.std.specs.Borrow.{Bor}
-use Rattle.std.proofs.lemmas.List.{length-take-le}
+use Rattle.std.proofs.lemmas.List.{length-take-le, length-drop, take-append-drop}
 use Rattle.std.proofs.Math.Seq.{take-append_seam, drop-append_seam}
 use Rattle.std.proofs.lemmas.Bool.{false≢true}
 use Rattle.std.proofs.lemmas.Bool.Decides.{nat_tests}
-use Rattle.std.specs.List.{prefix_len}
+use Rattle.std.specs.List.{prefix_len, starts_with}
+use Rattle.std.proofs.Math.Dec.{eqb}
 use Rattle.text.proofs.Runs.{run_of}
 use Rattle.text.specs.Bytes.{Each, is_blank, begins_name, goes_in_name, IsSomeSpace, IsSpace, IsName, NameEnds}
 use Rattle.text.specs.declared.cursor.Cursor.{Cursor}
-use Rattle.text.specs.Cursors.{rest_of, Moved, Stayed, BlanksRead, NameRead}
-use Rattle.text.specs.Fronts.{Past, RunIs}
+use Rattle.text.specs.Cursors.{rest_of, Moved, Stayed, BlanksRead, NameRead, WordRead}
+use Rattle.text.specs.Fronts.{Past, RunIs, agreed, Differs}
+use Rattle.text.proofs.Words.{Parted, parted, differs_at}
 
 -- what is left after a step
 pub moved_rest : (old new : Cursor) (g : List ℕ) → Moved old g new → rest_of new ≡ drop (length g) (rest_of old)
@@ -65,17 +67,30 @@ name_ends [] h = tt
 name_ends (b ∷ bs) h = h
 
 name_run : (old new : Cursor) (n : ℕ) → 1 ≤ length (rest_of old) → begins_name (get_or (rest_of old) 0 0) ≡ true → n ≡ prefix_len goes_in_name (rest_of old)
-  → Moved old (take n (rest_of old)) new → Moved old (take n (rest_of old)) new × IsName (take n (rest_of old)) × NameEnds (rest_of new)
+    → Moved old (take n (rest_of old)) new → Moved old (take n (rest_of old)) new × IsName (take n (rest_of old)) × NameEnds (rest_of new)
 name_run old new n some begins count m =
     let run = run_of goes_in_name (rest_of old) (rest_of old) n refl count in
     (m, is_name (rest_of old) n some begins count run.1, name_ends (rest_of new) (subst (Past goes_in_name) (sym (taken_rest old new n run.0 m)) run.2))
 
 pub name_read : (old new : Cursor) (rest : List ℕ) (n : ℕ) {begun : Bool} → rest ≡ rest_of old → 1 ≤ length rest → begun ≡ begins_name (get_or rest 0 0) → begun ≡ true → n ≡ prefix_len goes_in_name rest
-  → Moved old (take (length (take n rest)) (rest_of old)) new → Moved old (take n rest) new × IsName (take n rest) × NameEnds (rest_of new)
+    → Moved old (take (length (take n rest)) (rest_of old)) new → Moved old (take n rest) new × IsName (take n rest) × NameEnds (rest_of new)
 name_read old new rest n same some is begun count m =
     subst (λ r. Moved old (take n r) new × IsName (take n r) × NameEnds (rest_of new)) (sym same)
-      (name_run old new n (subst (λ r. 1 ≤ length r) same some) (subst (λ r. begins_name (get_or r 0 0) ≡ true) same (sym is ∙ begun)) (subst (λ r. n ≡ prefix_len goes_in_name r) same count)
-        (subst (λ k. Moved old (take k (rest_of old)) new) size m))
+    (name_run old new n (subst (λ r. 1 ≤ length r) same some) (subst (λ r. begins_name (get_or r 0 0) ≡ true) same (sym is ∙ begun)) (subst (λ r. n ≡ prefix_len goes_in_name r) same count)
+    (subst (λ k. Moved old (take k (rest_of old)) new) size m))
   where
     size : length (take n rest) ≡ n
     size = length-take-le n rest (run_of goes_in_name rest rest n refl count).0
+
+pub agreed_le : (c : Cursor) (word rest : List ℕ) (n : ℕ) → rest ≡ rest_of c → n ≡ agreed word rest → c.at + n ≤ length c.text.now
+agreed_le c word rest n same count =
+    let p : Parted word rest n = subst (Parted word rest) (sym count) (parted word rest) in
+    let left : n ≤ length (rest_of c) = subst (λ r. n ≤ length r) same p.fits in
+    omega (arith, length-drop c.at c.text.now, c.inside)
+
+pub word_differs : (c : Cursor) (word rest : List ℕ) (n : ℕ) {r : Bool} → rest ≡ rest_of c → r ≡ starts_with eqb rest word → r ≡ false → n ≡ agreed word rest → WordRead c word (Err (c.at + n)) c
+word_differs c word rest n {r} same is starts count =
+    ((refl, refl), (take n word, drop n word, drop n rest, sym (take-append-drop n word), sym same ∙ p.same, differs_at word rest n p (is) starts, ap (λ k. c.at + k) (sym (length-take-le n word p.within))))
+  where
+    p : Parted word rest n
+    p = subst (Parted word rest) (sym count) (parted word rest)
