@@ -1,18 +1,16 @@
 -- What a cursor's steps leave of the text. Assumes nothing.
-use Rattle.std.proofs.Common.{◌≡◌, ℕ, zero, suc, ◌+◌, ◌<◌, ◌≤◌, Bool, true, false, List, [], ◌∷◌, ◌++◌, length, take, drop, get_or, cond, refl, ap, sym, subst, ◌∙◌, arith, Some, None, Ok, Err}
+use Rattle.std.proofs.Common.{◌≡◌, ℕ, suc, ◌+◌, ◌<◌, ◌≤◌, Bool, true, false, List, [], ◌∷◌, length, take, drop, get_or, cond, refl, ap, sym, subst, ◌∙◌, arith, Err}
 use Rattle.std.specs.Prelude.{nat_lt}
-use Rattle.std.specs.Borrow.{Bor}
 use Rattle.std.proofs.lemmas.List.{length-take-le, length-drop, take-append-drop}
-use Rattle.std.proofs.Math.Seq.{take-append_seam, drop-append_seam}
-use Rattle.std.proofs.lemmas.Bool.{false≢true}
+use Rattle.std.proofs.Math.Seq.{drop-append_seam}
 use Rattle.std.proofs.lemmas.Bool.Decides.{nat_tests}
 use Rattle.std.specs.List.{prefix_len, starts_with}
 use Rattle.std.proofs.Math.Dec.{eqb}
 use Rattle.text.proofs.Runs.{run_of}
 use Rattle.text.specs.Bytes.{Each, is_blank, begins_name, goes_in_name, IsSomeSpace, IsSpace, IsName, NameEnds}
 use Rattle.text.specs.declared.cursor.Cursor.{Cursor}
-use Rattle.text.specs.Cursors.{rest_of, Moved, Stayed, BlanksRead, NameRead, WordRead}
-use Rattle.text.specs.Fronts.{Past, RunIs, agreed, Differs}
+use Rattle.text.specs.Cursors.{rest_of, Moved, Stayed, BlanksRead, WordRead}
+use Rattle.text.specs.Fronts.{Past, RunIs, agreed}
 use Rattle.text.proofs.Words.{Parted, parted, differs_at}
 
 -- what is left after a step

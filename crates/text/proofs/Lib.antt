@@ -2,3 +2,4 @@ pub mod Runs
 pub mod Words
 pub mod Bits
 pub mod CursorLemmas
+pub mod Comments

@@ -1,7 +1,6 @@
 -- Bytes at the front that pass a test. Assumes nothing.
-use Rattle.std.proofs.Common.{◌≡◌, ℕ, suc, ◌+◌, ◌<◌, ◌≤◌, Bool, true, false, cond, List, [], ◌∷◌, ◌++◌, length, take, drop, refl, ap, sym, subst, ◌∙◌, arith}
+use Rattle.std.proofs.Common.{◌≡◌, ℕ, suc, ◌+◌, Bool, true, false, cond, List, [], ◌∷◌, refl, ap, sym, subst, ◌∙◌, arith}
 use Rattle.std.specs.List.{prefix_len}
-use Rattle.text.specs.Bytes.{Each}
 use Rattle.text.specs.Fronts.{RunIs}
 
 run_step : (p : ℕ → Bool) (x : ℕ) (xs : List ℕ) → RunIs p xs (prefix_len p xs) → (b : Bool) → p x ≡ b → RunIs p (x ∷ xs) (cond b (1 + prefix_len p xs) 0)

@@ -1,5 +1,5 @@
 -- What stands at the front of a text. Assumes nothing.
-use Rattle.std.specs.Prelude.{◌≡◌, ℕ, ◌+◌, ◌≤◌, ◌||◌, Bool, true, false, List, [], ◌∷◌, ◌++◌, length, take, drop, ◌==◌, zip, codes, Some, None, Ok, Err, Option, Result}
+use Rattle.std.specs.Prelude.{◌≡◌, ℕ, ◌+◌, ◌≤◌, ◌||◌, Bool, false, List, [], ◌∷◌, ◌++◌, length, take, drop, ◌==◌, zip, codes, Some, None, Ok, Err, Option, Result}
 use Rattle.std.specs.List.{prefix_len}
 use Rattle.text.specs.Bytes.{Each, is_char, Bit, IsBit, AreBits, bit, bits}
 use Rattle.text.specs.declared.cursor.bytes.Part.{Part}

@@ -27,7 +27,7 @@ fn goes_in_name(byte: u8) -> bool
 }
 
 /// Whether the byte can stand in a comment, if it does not end it.
-pub(super) fn is_char(byte: u8) -> bool
+fn is_char(byte: u8) -> bool
     ensures { result ≡ commented byte }
 {
     matches!(byte, b'\t' | b'\n' | b'\r' | b' '..=127)

@@ -1,4 +1,4 @@
-use Rattle.std.proofs.Common.{arith, rules}
+use Rattle.std.proofs.Common.{rules}
 use Rattle.text.proofs.CursorLemmas.{agreed_le, word_differs}
 use Rattle.text.proofs.cursor.Cursor.word.Goals as goal
 
