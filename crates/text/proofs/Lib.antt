@@ -1,3 +1,6 @@
 pub mod Runs
+pub mod Words
+pub mod Bits
 pub mod CursorLemmas
+pub mod Comments
 pub mod Walking

@@ -1,5 +1,5 @@
 -- What is left of a text, and what a step of reading takes from it. Assumes nothing.
-use Rattle.std.specs.Prelude.{◌≡◌, ℕ, ◌+◌, ◌⊎◌, Bool, true, false, List, [], ◌∷◌, ◌++◌, length, drop, codes, Some, None, Ok, Err, Option, Result}
+use Rattle.std.specs.Prelude.{◌≡◌, ℕ, ◌+◌, ◌⊎◌, Bool, true, false, List, ◌++◌, length, drop, codes, Some, None, Ok, Err, Option, Result}
 use Rattle.std.specs.Borrow.{Bor}
 use Rattle.grammar.specs.Bytes.{is_blank, begins_name, IsName, IsSomeSpace, NameEnds, Bit, AreBits, bits, comment}
 use Rattle.text.specs.Fronts.{Past, Differs, Inside, is_mark, mark_bytes}

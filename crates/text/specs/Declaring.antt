@@ -48,7 +48,7 @@ SuffixPast false rest = Past is_mark rest
 
 -- what follows is neither white space nor a comment
 abbrev pub GapPast : List ℕ → Type 0
-GapPast text = Past is_blank text × ((rest : List ℕ) → text ≡ codes "<!-" ++ rest → ⊥)
+GapPast bytes = Past is_blank bytes × ((rest : List ℕ) → bytes ≡ codes "<!-" ++ rest → ⊥)
 
 -- the gap before a declaration or the end has been read
 abbrev pub GapRead : List (List ℕ) → List ℕ → List Declaration → Result (Unit {0}) PlacedCause → Cursor → Type 0

@@ -1,7 +1,9 @@
 -- What stands at the front of a text. Assumes nothing.
-use Rattle.std.specs.Prelude.{◌≡◌, ℕ, ◌+◌, ◌≤◌, ◌||◌, Bool, true, false, List, [], ◌∷◌, ◌++◌, length, take, drop, ◌==◌, zip, codes, Some, None, Ok, Err, Option, Result}
+use Rattle.std.specs.Prelude.{◌≡◌, ℕ, ◌+◌, ◌≤◌, ◌||◌, Bool, false, List, [], ◌∷◌, ◌++◌, length, take, drop, ◌==◌, zip, codes, Some, None, Ok, Err, Option, Result}
 use Rattle.std.specs.List.{prefix_len}
-use Rattle.grammar.specs.Bytes.{Each, is_char, Bit, AreBits, bits}
+use Rattle.grammar.specs.Bytes.{Each, is_char, Bit, IsBit, AreBits, bit, bits}
+use Rattle.text.specs.declared.cursor.bytes.Part.{Part}
+use Rattle.text.specs.declared.cursor.bytes.Part.TheVariants.{Inner, End, Broken}
 use Rattle.text.specs.declared.mark.Mark.{Mark}
 use Rattle.text.specs.declared.mark.Mark.TheVariants.{Optional, Repeated, Any}
 
@@ -54,6 +56,12 @@ IsDashes [] = Unit {0}
 IsDashes (c ∷ []) = c ≡ 45
 IsDashes (c ∷ d ∷ []) = (c ≡ 45) × (d ≡ 45)
 IsDashes (c ∷ d ∷ e ∷ done) = ⊥
+
+-- what the inside of a comment goes on with
+abbrev pub PartIs : List ℕ → Part → Type 0
+PartIs text (Inner n) = (u : Bit) × (rest : List ℕ) × IsBit u × (n ≡ length (bit u)) × (text ≡ bit u ++ rest)
+PartIs text End = (rest : List ℕ) × (text ≡ codes "-->" ++ rest)
+PartIs text (Broken n) = (done : List ℕ) × (rest : List ℕ) × IsDashes done × Breaks done rest × (n ≡ length done) × (text ≡ done ++ rest)
 
 -- so many bytes are the inside of a comment, which ends behind them; or none ends, and so many bytes go on as one
 abbrev pub Inside : List ℕ → Result ℕ ℕ → Type 0
