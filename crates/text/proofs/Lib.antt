@@ -4,3 +4,4 @@ pub mod Bits
 pub mod CursorLemmas
 pub mod Comments
 pub mod Walking
+pub mod Children

@@ -46,8 +46,7 @@ pub struct TextFault {
 impl TextCause {
     /// The cause, at a place.
     pub fn at(self, place: usize) -> PlacedCause
-        ensures cause { result.cause ≡ self }
-        ensures place { result.place ≡ place }
+        ensures { result ≡ record { cause = self; place = place } }
     {
         PlacedCause { cause: self, place }
     }
