@@ -4,3 +4,7 @@ pub mod Cursors
 pub mod Fronts
 pub mod Progress
 pub mod Declaring
+pub mod Between
+pub mod Law
+pub mod Standing
+pub mod Delivery

@@ -4,9 +4,14 @@
 
 mod content;
 mod cursor;
+pub mod declared;
+mod delivery;
 mod dtd;
 mod element;
 mod elements;
-mod fault;
+pub mod fault;
 mod join;
 mod mark;
+pub mod notation;
+pub mod reader;
+pub mod refusal;

@@ -1,0 +1,11 @@
+//! A declaration that was read.
+
+/// How many parts its model has, the first ones of the sheet; the symbol of its element;
+/// and the element's name, as it stands in the text.
+#[derive(Clone, Copy)]
+pub struct Declared<'t> {
+    /// 1 to 256
+    pub length: usize,
+    pub symbol: u32,
+    pub name: &'t [u8],
+}
