@@ -25,9 +25,9 @@ module _ (parts : List Part) (count : ℕ) (room : length parts ≡ 256) (ps : L
 
   pub size_is : count ≤ 256 → length ps ≡ count
   size_is few = elim (cases_lt 256 (length ps)) [
-      | inl more ↦ let t = more_is ∙ lt-ltb 256 (length ps) more in let over = ltb-true 256 count t in omega arith
-      | inr less ↦ let e = sizes in omega arith
-    ]
+    | inl more ↦ let t = more_is ∙ lt-ltb 256 (length ps) more in let over = ltb-true 256 count t in omega arith
+    | inr less ↦ let e = sizes in omega arith
+  ]
 
   pub size_over : 256 < count → 256 < length ps
   size_over over = ltb-true 256 (length ps) (sym more_is ∙ lt-ltb 256 count over)
@@ -70,7 +70,7 @@ one_over parts count other p ps room enough over is =
 -- all parts, where they are read
 pub all_of : (parts : List Part) (count : ℕ) (ps : List Part) (r : Option (Bor (List Part))) → length parts ≡ 256
     → MatchOption r ((count < 0) ⊎ (length parts < count))
-      (λ x. (0 ≤ count) × (count ≤ length parts) × (x.now ≡ slice_range parts 0 count) × (length x.now + 0 ≡ count))
+    (λ x. (0 ≤ count) × (count ≤ length parts) × (x.now ≡ slice_range parts 0 count) × (length x.now + 0 ≡ count))
     → kept parts count ≡ made_of ps → AllOf ps r
 all_of parts count ps None room read is =
     elim read [ inl none ↦ absurd (omega arith) | inr over ↦ size_over parts count room ps is (omega arith) ]

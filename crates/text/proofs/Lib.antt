@@ -1,3 +1,4 @@
 pub mod Runs
 pub mod CursorLemmas
 pub mod ContentLemmas
+pub mod ElementLemmas
