@@ -1,11 +1,11 @@
 -- What is kept of parts where one is added, and where they are read. Assumes nothing.
-use Rattle.std.proofs.Common.{◌≡◌, ℕ, ◌+◌, ◌<◌, ◌≤◌, ◌⊎◌, min, Bool, List, [], ◌∷◌, ◌++◌, length, take, drop, set, sym, ap, ◌∙◌, refl, subst, inl, inr, Some, None, arith}
+use Rattle.std.proofs.Common.{◌≡◌, ℕ, ◌+◌, ◌<◌, ◌≤◌, ◌⊎◌, min, Bool, List, [], ◌∷◌, ◌++◌, length, take, set, sym, ap, ◌∙◌, inl, inr, Some, None, arith}
 use Rattle.std.specs.Prelude.{nat_lt, Option, MatchOption, slice_range}
 use Rattle.std.specs.Borrow.{Bor}
-use Rattle.std.proofs.lemmas.List.{length-take, length-append, length_push, take_all, take_more_set, take-append-le}
-use Rattle.std.proofs.lemmas.Bool.{ltb-true, lt-ltb, le-ltb, cases_lt}
+use Rattle.std.proofs.lemmas.List.{length-take, length_push, take_all, take_more_set, take-append-le}
+use Rattle.std.proofs.lemmas.Bool.{ltb-true, lt-ltb, cases_lt}
 use Rattle.parts.specs.declared.part.Part.{Part}
-use Rattle.text.specs.Contents.{Made, made_of, MakesMore, AllOf}
+use Rattle.text.specs.Contents.{Made, made_of, AllOf}
 
 abbrev kept : List Part → ℕ → Made
 kept parts count = record { first = take (min count 256) parts; more = nat_lt 256 count }
@@ -23,16 +23,16 @@ module _ (parts : List Part) (count : ℕ) (room : length parts ≡ 256) (ps : L
       let e = ap length first_is in
       omega (arith, length-take (min count 256) parts, length-take 256 ps)
 
-  pub size_is : count ≤ 256 → length ps ≡ count
+  size_is : count ≤ 256 → length ps ≡ count
   size_is few = elim (cases_lt 256 (length ps)) [
     | inl more ↦ let t = more_is ∙ lt-ltb 256 (length ps) more in let over = ltb-true 256 count t in omega arith
     | inr less ↦ let e = sizes in omega arith
   ]
 
-  pub size_over : 256 < count → 256 < length ps
+  size_over : 256 < count → 256 < length ps
   size_over over = ltb-true 256 (length ps) (sym more_is ∙ lt-ltb 256 count over)
 
-  pub parts_are : count ≤ 256 → take count parts ≡ ps
+  parts_are : count ≤ 256 → take count parts ≡ ps
   parts_are few =
       let size = size_is few in
       let least : min count 256 ≡ count = omega arith in

@@ -1,6 +1,6 @@
 -- The names, the declared ones among them and the declarations begun, where one sign is read more. Assumes nothing.
-use Rattle.std.proofs.Common.{◌≡◌, ℕ, zero, suc, ◌+◌, ◌<◌, ◌≤◌, ◌⊎◌, Bool, true, false, cond, ◌||◌, List, [], ◌∷◌, ◌++◌, length, sym, refl, ap, ◌∙◌, subst, inl, inr, ⊎_elim, append-nil, append_assoc, Ok, Err, arith}
-use Rattle.std.specs.Prelude.{bit_or, Result}
+use Rattle.std.proofs.Common.{◌≡◌, ℕ, zero, ◌+◌, ◌<◌, ◌≤◌, Bool, true, false, ◌||◌, List, [], ◌∷◌, ◌++◌, length, sym, refl, ap, ◌∙◌, subst, inl, inr, ⊎_elim, Ok, Err, arith}
+use Rattle.std.specs.Prelude.{bit_or}
 use Rattle.std.specs.Str.{bytes_eq}
 use Rattle.std.proofs.lemmas.Bool.{cases_Bool, false≢true, or_right}
 use Rattle.std.proofs.lemmas.List.{length_push}
@@ -9,21 +9,19 @@ use Rattle.std.proofs.lemmas.Slice.Eq.{bytes_eq-Decides}
 use Rattle.parts.specs.Sets.{In, only}
 use Rattle.parts.proofs.SymbolSets.{in_left, in_right, in_either, in_only, only_in}
 use Rattle.names.specs.Numbering.{symbol_in, is_known, known_after}
-use Rattle.names.specs.Kept.{AreKept, Met, HasSymbol}
+use Rattle.names.specs.Kept.{AreKept, Met}
 use Rattle.names.specs.declared.names.NameFault.{NameFault}
 use Rattle.names.specs.declared.names.NameFault.TheVariants.{TooLong, TooMany}
-use Rattle.names.proofs.Numbering.{symbol-behind, symbol_below, at_symbol, same_symbol, met_known, met_new, known_once_met, met_in_turn, added_behind, no_fewer, stays_known, symbol_stays}
+use Rattle.names.proofs.Numbering.{symbol-behind, symbol_below, at_symbol, same_symbol, met_new, known_once_met, met_in_turn, added_behind, no_fewer, stays_known, symbol_stays}
 use Rattle.grammar.specs.Notations.{Notation}
 use Rattle.grammar.specs.Notations.Notation.{dtd}
 use Rattle.grammar.specs.Words.Sign.{names}
 use Rattle.grammar.specs.Declarations.{Sign}
 use Rattle.grammar.specs.Declarations.Sign.{element, declared, inner}
-use Rattle.grammar.specs.Faults.{Faultless, Repeats, Beyond, NameBeyond, names_among, begun, is_declared}
-use Rattle.text.specs.Causes.{name_cause, IsNameSign}
-use Rattle.text.specs.Progress.{is_plain_sign, DeclaredAre, ElementsAre, NamesGrow, AtFaultBy, TakenIn}
+use Rattle.grammar.specs.Faults.{Faultless, NameBeyond, names_among, begun, is_declared}
+use Rattle.text.specs.Causes.{name_cause}
+use Rattle.text.specs.Progress.{is_plain_sign, DeclaredAre, ElementsAre, NamesGrow, AtFaultBy}
 use Rattle.text.specs.declared.elements.Elements.{Elements}
-use Rattle.text.specs.declared.fault.TextCause.{TextCause}
-use Rattle.text.specs.declared.fault.TextCause.TheVariants.{LongName, TooManyNames}
 
 -- what signs say, one behind others
 
