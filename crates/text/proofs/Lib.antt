@@ -7,3 +7,5 @@ pub mod Walking
 pub mod Children
 pub mod Naming
 pub mod Reading
+pub mod ContentLemmas
+pub mod ElementLemmas
