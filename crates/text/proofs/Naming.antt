@@ -1,13 +1,14 @@
 -- The names of declarations, and that their models are well formed. Assumes nothing.
-use Rattle.std.proofs.Common.{◌≡◌, ℕ, ◌<◌, ◌≤◌, inl, Bool, true, false, cond, List, [], ◌∷◌, ◌++◌, length, sym, refl, ap, ◌∙◌, subst, arith}
-use Rattle.std.specs.Prelude.{Ok, is_ok}
+use Rattle.std.proofs.Common.{◌≡◌, ℕ, ◌+◌, ◌<◌, ◌≤◌, ◌⊎◌, inl, inr, Bool, true, false, cond, List, [], ◌∷◌, ◌++◌, length, sym, refl, ap, ◌∙◌, subst, arith, length-append}
+use Rattle.std.specs.Prelude.{Ok}
 use Rattle.std.proofs.lemmas.List.{append_assoc, append-nil}
+use Rattle.std.proofs.lemmas.Bool.{cases_lt}
 use Rattle.models.specs.Trees.{Formed}
 use Rattle.models.specs.Sheets.{table_answer}
 use Rattle.models.specs.Written.{sheet}
 use Rattle.models.proofs.Written.{taken_exactly}
 use Rattle.names.specs.Numbering.{symbol_in, is_known, known_after}
-use Rattle.names.proofs.Numbering.{symbol_below, met_in_turn, each_met_known}
+use Rattle.names.proofs.Numbering.{symbol_below, met_known, met_new, met_in_turn, each_met_known}
 use Rattle.grammar.specs.Words.{Words, Mark, Join, Sign as Inner, signs}
 use Rattle.grammar.specs.Words.Words.{name, nothing, group, marked, joined}
 use Rattle.grammar.specs.Words.Mark.{optional, repeated, any}
@@ -17,7 +18,8 @@ use Rattle.grammar.specs.Declarations.{Content, Declaration, Sign, inners, alter
 use Rattle.grammar.specs.Declarations.Content.{none, whatever, text, children}
 use Rattle.grammar.specs.Declarations.Sign.{element, declared, empty_word, any_word, pcdata_word, inner, ends}
 use Rattle.grammar.specs.Meaning.{tree_of, names_in}
-use Rattle.grammar.specs.Faults.{names_among}
+use Rattle.grammar.specs.Notations.{Notation}
+use Rattle.grammar.specs.Faults.{NameBeyond, Faultless, AllFaultless, names_among}
 use Rattle.grammar.proofs.Signs.{inners-append}
 use Rattle.text.specs.Law.{names_of}
 
@@ -135,3 +137,47 @@ model_taken ks d few small =
     subst (λ x. AllKnown (known_after ks (d.name ∷ x)) (words d.content)) (append-nil (names_in (words d.content)))
     (all_known ks (d.name ∷ []) [] (words d.content)) in
     (taken_exactly (sheet (tree_of known (words d.content))) (tree_of known (words d.content))).1 (refl, formed known (words d.content) few all, small)
+
+-- where no sign is at fault, at most 64 names are known
+name_more : (ν : Notation) (ks : List (List ℕ)) (ss : List Sign) (n : List ℕ) → length (known_after ks (names_among ss)) ≤ 64 → (NameBeyond ks ss n → ⊥)
+    → length (known_after (known_after ks (names_among ss)) (n ∷ [])) ≤ 64
+name_more ν ks ss n few fits = by (is_known known n) refl (cases_lt (length known) 64)
+  where
+    known : List (List ℕ)
+    known = known_after ks (names_among ss)
+
+    by : (b : Bool) → is_known known n ≡ b → (length known < 64) ⊎ (64 ≤ length known) → length (known_after known (n ∷ [])) ≤ 64
+    by true k lt = subst (λ x. length x ≤ 64) (sym (met_known known n k)) few
+    by false k (inl lt) =
+        let more : length (known ++ (n ∷ [])) ≡ length known + 1 = length-append known (n ∷ []) in
+        subst (λ x. length x ≤ 64) (sym (met_new known n k)) (omega arith)
+    by false k (inr ge) = absurd (fits (inr (k, ge)))
+
+sign_more : (ν : Notation) (ks : List (List ℕ)) (ss : List Sign) (s : Sign) → length (known_after ks (names_among ss)) ≤ 64 → Faultless ν ks ss s
+    → length (known_after ks (names_among (ss ++ (s ∷ [])))) ≤ 64
+sign_more ν ks ss s few one = subst (λ x. length x ≤ 64) (sym (ap (known_after ks) (among-append ss (s ∷ [])) ∙ met_in_turn ks (names_among ss) (names_among (s ∷ [])))) (by s one)
+  where
+    by : (s : Sign) → Faultless ν ks ss s → length (known_after (known_after ks (names_among ss)) (names_among (s ∷ []))) ≤ 64
+    by (declared n) one = name_more ν ks ss n few one.1
+    by (inner (names n)) one = name_more ν ks ss n few one.1
+    by (inner empties) one = few
+    by (inner opens) one = few
+    by (inner closes) one = few
+    by (inner (suffix m)) one = few
+    by (inner (separator j)) one = few
+    by element one = few
+    by empty_word one = few
+    by any_word one = few
+    by pcdata_word one = few
+    by ends one = few
+
+signs_more : (ν : Notation) (ks : List (List ℕ)) (rest ss : List Sign) → AllFaultless ν ks (ss ++ rest) → length (known_after ks (names_among ss)) ≤ 64
+    → length (known_after ks (names_among (ss ++ rest))) ≤ 64
+signs_more ν ks [] ss all few = subst (λ x. length (known_after ks (names_among x)) ≤ 64) (sym (append-nil ss)) few
+signs_more ν ks (s ∷ rest) ss all few =
+    let same : ss ++ (s ∷ rest) ≡ (ss ++ (s ∷ [])) ++ rest = sym (append_assoc ss (s ∷ []) rest) in
+    subst (λ x. length (known_after ks (names_among x)) ≤ 64) (sym same)
+    (signs_more ν ks rest (ss ++ (s ∷ [])) (subst (AllFaultless ν ks) same all) (sign_more ν ks ss s few (all ss s rest same)))
+
+pub few_known : (ν : Notation) (ks : List (List ℕ)) (ss : List Sign) → AllFaultless ν ks ss → length ks ≤ 64 → length (known_after ks (names_among ss)) ≤ 64
+few_known ν ks ss all few = signs_more ν ks ss [] all few

@@ -1,22 +1,35 @@
 -- What a reader is answered and how it stands afterwards. Assumes nothing.
-use Rattle.std.proofs.Common.{◌≡◌, ℕ, ◌+◌, ◌<◌, ◌≤◌, List, [], ◌∷◌, ◌++◌, length, take, Some, None, Option, sym, refl, ap, ◌∙◌, subst, arith}
+use Rattle.std.proofs.Common.{◌≡◌, ℕ, ◌+◌, ◌<◌, ◌≤◌, List, [], ◌∷◌, ◌++◌, length, take, drop, Some, None, Option, sym, refl, ap, ◌∙◌, subst, arith, length-append}
 use Rattle.std.specs.Prelude.{Ok, true}
-use Rattle.std.proofs.lemmas.List.{append_assoc, append-nil}
-use Rattle.models.specs.Sheets.{is_model}
+use Rattle.std.proofs.lemmas.List.{append_assoc, append-nil, take_all, length-take}
+use Rattle.models.specs.Sheets.{table_answer, is_model}
 use Rattle.names.specs.Numbering.{known_after}
 use Rattle.grammar.specs.Notations.{Notation}
-use Rattle.grammar.specs.Declarations.{Declaration, all_names}
-use Rattle.grammar.specs.Faults.{Cause, Gives, GivesOne, parts_of}
-use Rattle.text.specs.Between.{Between, GivesFirst, model_parts, Declares}
+use Rattle.grammar.specs.Declarations.{Declaration, IsText, all_names, all_signs, words}
+use Rattle.grammar.specs.Meaning.{tree_of}
+use Rattle.grammar.specs.Faults.{Cause, number, Gives, GivesOne, AllFaultless, parts_of}
+use Rattle.text.specs.Between.{Between, GivesFirst, model_parts, Declares, Declared}
 use Rattle.text.specs.Contents.{Made}
 use Rattle.text.specs.Law.{Reading, TextGives, NamesKnown, names_of}
+use Rattle.text.specs.Progress.{ElementsAre}
 use Rattle.text.specs.Standing.{StandsWith, Standing}
 use Rattle.text.specs.declared.cursor.Cursor.{Cursor}
 use Rattle.text.specs.declared.element.Element.{Element}
 use Rattle.text.specs.declared.elements.Elements.{Elements}
 use Rattle.text.specs.declared.fault.TextFault.{TextFault}
-use Rattle.std.proofs.Math.Seq.{take-append_seam}
-use Rattle.text.proofs.Naming.{names_among_all, known_one_more, model_taken}
+use Rattle.std.proofs.Math.Seq.{take-append_seam, drop-append_seam}
+use Rattle.std.proofs.lemmas.List.{take-append-le}
+use Rattle.parts.specs.declared.part.Part.{Part}
+use Rattle.names.specs.Numbering.{symbol_in}
+use Rattle.names.proofs.Numbering.{added_behind, no_fewer}
+use Rattle.text.specs.Law.{Told, NextDue, NextAsked, ModelTold}
+use Rattle.grammar.specs.Notations.Notation.{dtd}
+use Rattle.text.specs.Causes.{at_text, cause_of, cause_number}
+use Rattle.text.specs.declared.fault.TextCause.{TextCause}
+use Rattle.text.specs.declared.fault.TextCause.TheVariants.{NotDeclarations, AnyContent, DeclaredAgain, LongName, TooManyNames, TooManyDeclarations, TooDeep, TooManyParts}
+use Rattle.text.specs.Law.Told.{declares, none_left, fault as tell}
+use Rattle.text.specs.Progress.{NamesGrow, Fails}
+use Rattle.text.proofs.Naming.{names_among_all, known_one_more, few_known, model_taken}
 
 -- two lists that begin one list are the same, where they are as long
 same_front : (ds es more less : List Declaration) → ds ++ more ≡ es ++ less → length ds ≡ length es → ds ≡ es
@@ -50,3 +63,213 @@ pub names_told : (ν : Notation) (c : Cursor) (e : Elements) (known texts given 
 names_told ν c e known texts given fault s one r view = subst (λ x. NamesKnown x e.names) view (λ ds more end g count.
     names_known ν c e known texts given fault s
     ∙ ap (λ x. known_after (take known e.names) (names_of x)) (sym (given_same ν c e known texts given fault s one ds more end g count)))
+
+-- a text begins
+no_text : (ν : Notation) → IsText ν [] []
+no_text ν = ([], [], (refl, tt, tt), ([], tt, refl), refl)
+
+none_at_fault : (ν : Notation) (ks : List (List ℕ)) → AllFaultless ν ks []
+none_at_fault ν ks ss s more e =
+    let size : 0 ≡ length (ss ++ (s ∷ [])) + length more = ap length e ∙ length-append (ss ++ (s ∷ [])) more in
+    let one : length (ss ++ (s ∷ [])) ≡ length ss + 1 = length-append ss (s ∷ []) in
+    absurd (omega arith)
+
+begun : (ν : Notation) (c : Cursor) (e : Elements) (known texts : ℕ) → known ≡ length e.names → c.at ≡ 0 → ElementsAre ν e.names [] e
+    → GivesFirst ν e.names c.text.now [] → Standing ν c e known texts 0 None
+begun ν c e known texts size at are first =
+    let all : take known e.names ≡ e.names = take_all known e.names (omega arith) in record {
+      names = omega arith;
+      ds = [];
+      count = refl;
+      first = subst (λ ks. GivesFirst ν ks c.text.now []) (sym all) first;
+      stands = subst (λ ks. Between ν ks c.text.now [] c e) (sym all) (record {
+        text = refl;
+        read = subst (λ n. IsText ν (take n c.text.now) []) (sym at) (no_text ν);
+        faultless = none_at_fault ν e.names;
+        elements = are;
+      });
+    }
+
+pub begins : (ν : Notation) (c : Cursor) (e : Elements) (known texts : ℕ) (ks : List (List ℕ)) → e.names ≡ ks → known ≡ length ks → c.at ≡ 0
+    → ElementsAre ν ks [] e → GivesFirst ν ks c.text.now [] → Standing ν c e known texts 0 None
+begins ν c e known texts ks same size at are first =
+    begun ν c e known texts (size ∙ ap length (sym same)) at (subst (λ x. ElementsAre ν x [] e) (sym same) are)
+    (subst (λ x. GivesFirst ν x c.text.now []) (sym same) first)
+
+-- a declaration is read
+module _ (ν : Notation) (ks : List (List ℕ)) (bytes : List ℕ) (ds : List Declaration) (d : Declaration) (el : Element) (c : Cursor) (e : Elements) (m : Made) (r : Declares ν ks bytes ds d el c e m) where
+  names_behind : e.names ≡ known_after ks (names_of (ds ++ (d ∷ [])))
+  names_behind = r.between.elements.names ∙ ap (known_after ks) (names_among_all (ds ++ (d ∷ [])))
+
+  names_next : e.names ≡ known_after (known_after ks (names_of ds)) (all_names d)
+  names_next = names_behind ∙ known_one_more ks ds d
+
+  few_names : length ks ≤ 64 → length e.names ≤ 64
+  few_names few = subst (λ x. length x ≤ 64) (sym r.between.elements.names) (few_known ν ks (all_signs (ds ++ (d ∷ []))) r.between.faultless few)
+
+  parts_next : model_parts e.names d ≡ parts_of (known_after ks (names_of ds)) d
+  parts_next = ap (λ x. model_parts x d) names_next
+
+  pub model_made : length ks ≤ 64 → table_answer (model_parts e.names d) ≡ Ok (tree_of e.names (words d.content))
+  model_made few =
+      let P : List (List ℕ) → Type 0 = λ x. table_answer (model_parts x d) ≡ Ok (tree_of x (words d.content)) in
+      subst P (sym names_next)
+      (model_taken (known_after ks (names_of ds)) d (subst (λ x. length x ≤ 64) names_next (few_names few))
+      (subst (λ x. length (model_parts x d) ≤ 256) names_next r.parts))
+
+-- the names known before a text stay the first
+front_kept : (known : ℕ) (old new : List (List ℕ)) (ns : List (List ℕ)) → known ≤ length old → new ≡ known_after old ns → take known new ≡ take known old
+front_kept known old new ns le e =
+    let (more, k) = added_behind old ns in
+    ap (take known) (e ∙ k) ∙ take-append-le known old more le
+
+no_fewer_now : (known : ℕ) (old new : List (List ℕ)) (ns : List (List ℕ)) → known ≤ length old → new ≡ known_after old ns → known ≤ length new
+no_fewer_now known old new ns le e =
+    let some : length old ≤ length (known_after old ns) = no_fewer old ns in
+    let same : length new ≡ length (known_after old ns) = ap length e in
+    omega arith
+
+-- before a call that reads on
+pub unfailed : (ν : Notation) (c : Cursor) (e : Elements) (known texts given : ℕ) (fault : Option TextFault) → Standing ν c e known texts given fault → fault ≡ None
+    → Standing ν c e known texts given None
+unfailed ν c e known texts given fault s none = subst (Standing ν c e known texts given) none s
+
+pub stands_between : (ν : Notation) (c : Cursor) (e : Elements) (known texts given : ℕ) (s : Standing ν c e known texts given None)
+    → Between ν (take known e.names) c.text.now s.ds c e
+stands_between ν c e known texts given s = s.stands
+
+-- after one that read a declaration
+pub gave : (ν : Notation) (c new : Cursor) (e f : Elements) (known texts given : ℕ) (s : Standing ν c e known texts given None) (d : Declaration) (el : Element) (m : Made)
+    → Declares ν (take known e.names) c.text.now s.ds d el new f m → NamesGrow e f → Standing ν new f known texts (given + 1) None
+gave ν c new e f known texts given s d el m r (ns, grow) =
+    let same : take known f.names ≡ take known e.names = front_kept known e.names f.names ns s.names grow in
+    let text : new.text.now ≡ c.text.now = r.between.text in record {
+      names = no_fewer_now known e.names f.names ns s.names grow;
+      ds = s.ds ++ (d ∷ []);
+      count = length-append s.ds (d ∷ []) ∙ ap (λ n. n + 1) s.count;
+      first = subst (λ x. GivesFirst ν (take known f.names) x (s.ds ++ (d ∷ []))) (sym text) (subst (λ x. GivesFirst ν x c.text.now (s.ds ++ (d ∷ []))) (sym same) r.first);
+      stands = subst (λ x. Between ν (take known f.names) x (s.ds ++ (d ∷ [])) new f) (sym text) (subst (λ x. Between ν x c.text.now (s.ds ++ (d ∷ [])) new f) (sym same) r.between);
+    }
+
+-- that found the end
+pub ended : (ν : Notation) (c new : Cursor) (e f : Elements) (known texts given : ℕ) (s : Standing ν c e known texts given None)
+    → Between ν (take known e.names) c.text.now s.ds new f → NamesGrow e f → Standing ν new f known texts given None
+ended ν c new e f known texts given s b (ns, grow) =
+    let same : take known f.names ≡ take known e.names = front_kept known e.names f.names ns s.names grow in
+    let text : new.text.now ≡ c.text.now = b.text in record {
+      names = no_fewer_now known e.names f.names ns s.names grow;
+      ds = s.ds;
+      count = s.count;
+      first = subst (λ x. GivesFirst ν (take known f.names) x s.ds) (sym text) (subst (λ x. GivesFirst ν x c.text.now s.ds) (sym same) s.first);
+      stands = subst (λ x. Between ν (take known f.names) x s.ds new f) (sym text) (subst (λ x. Between ν x c.text.now s.ds new f) (sym same) b);
+    }
+
+-- that found a fault, with the names as they were
+pub failed : (ν : Notation) (c new : Cursor) (e f : Elements) (known texts given : ℕ) (s : Standing ν c e known texts given None) (fault : TextFault) → new.text.now ≡ c.text.now
+    → f.names ≡ e.names → Fails ν (take known e.names) c.text.now s.ds (record { cause = fault.cause; place = fault.place }) → fault.texts ≡ texts → fault.declarations ≡ given
+    → Standing ν new f known texts given (Some fault)
+failed ν c new e f known texts given s fault text same fails told count =
+    let front : take known f.names ≡ take known e.names = ap (take known) same in record {
+      names = subst (λ x. known ≤ length x) (sym same) s.names;
+      ds = s.ds;
+      count = s.count;
+      first = subst (λ x. GivesFirst ν (take known f.names) x s.ds) (sym text) (subst (λ x. GivesFirst ν x c.text.now s.ds) (sym front) s.first);
+      stands = (
+        subst (λ x. Fails ν (take known f.names) x s.ds (record { cause = fault.cause; place = fault.place })) (sym text)
+            (subst (λ x. Fails ν x c.text.now s.ds (record { cause = fault.cause; place = fault.place })) (sym front) fails),
+        told,
+        count,
+        same ∙ names_known ν c e known texts given None s ∙ ap (λ x. known_after x (names_of s.ds)) (sym front),
+      );
+    }
+
+-- what is told
+pub due_declaration : (ν : Notation) (c new : Cursor) (e f : Elements) (known texts given : ℕ) (s : Standing ν c e known texts given None) (d : Declaration) (el : Element)
+    (m : Made) → Declares ν (take known e.names) c.text.now s.ds d el new f m → (n : List ℕ) (symbol : ℕ) (ps : List Part) → n ≡ el.name.now → symbol ≡ el.symbol → ps ≡ model_parts f.names d
+    → NextDue (seen ν c e known texts given) (declares ps symbol n)
+due_declaration ν c new e f known texts given s d el m r n symbol ps name is parts =
+    let (more, end, g) = r.first in (
+      s.ds,
+      d,
+      more,
+      end,
+      subst (λ x. Gives ν (take known e.names) c.text.now x end) (append_assoc s.ds (d ∷ []) more) g,
+      s.count,
+      name ∙ r.name,
+      is ∙ r.symbol ∙ ap (λ x. symbol_in x d.name) (names_behind ν (take known e.names) c.text.now s.ds d el new f m r),
+      parts ∙ parts_next ν (take known e.names) c.text.now s.ds d el new f m r,
+    )
+
+pub due_none : (ν : Notation) (c : Cursor) (e : Elements) (known texts given : ℕ) (s : Standing ν c e known texts given None)
+    → Gives ν (take known e.names) c.text.now s.ds None → NextDue (seen ν c e known texts given) none_left
+due_none ν c e known texts given s g = (s.ds, g, s.count)
+
+numbered : (ν : Notation) (cause : TextCause) → cause_number cause ≡ number ν (cause_of cause)
+numbered dtd NotDeclarations = refl
+numbered dtd AnyContent = refl
+numbered dtd DeclaredAgain = refl
+numbered dtd LongName = refl
+numbered dtd TooManyNames = refl
+numbered dtd TooManyDeclarations = refl
+numbered dtd TooDeep = refl
+numbered dtd TooManyParts = refl
+
+pub due_fault : (ν : Notation) (c : Cursor) (e : Elements) (known texts given : ℕ) (fault : TextFault) → Standing ν c e known texts given (Some fault)
+    → NextDue (seen ν c e known texts given) (tell fault)
+due_fault ν c e known texts given fault s =
+    let (fails, told, count, names) = s.stands in (
+      s.ds,
+      cause_of fault.cause,
+      fails.0,
+      s.count,
+      ap (λ n. record { notice = at_text n fault.place; texts = fault.texts; declarations = fault.declarations }) (numbered ν fault.cause)
+          ∙ ap (λ t. record { notice = at_text (number ν (cause_of fault.cause)) fault.place; texts = t; declarations = fault.declarations }) told
+          ∙ ap (λ k. record { notice = at_text (number ν (cause_of fault.cause)) fault.place; texts = texts; declarations = k }) count,
+      fails.1,
+    )
+
+-- asked of a sheet of 256 parts
+pub asked : (r r2 : Reading) (l : ℕ) (t : Told) → l ≡ 256 → r ≡ r2 → NextDue r t → NextAsked r2 l t
+asked r r2 l t is same due = subst (λ n. NextAsked r2 n t) (sym is) (subst (λ x. NextDue x t) same due)
+
+-- the model of the declaration, whatever way what the text gives is told
+pub model_told : (ν : Notation) (c new : Cursor) (e f : Elements) (known texts given : ℕ) (s : Standing ν c e known texts given None) (d : Declaration) (el : Element)
+    (m : Made) → Declares ν (take known e.names) c.text.now s.ds d el new f m → GivesOne ν → length e.names ≤ 64 → (n : List ℕ) (symbol : ℕ) (ps : List Part)
+    → ps ≡ model_parts f.names d → ModelTold (seen ν c e known texts given) (declares ps symbol n)
+model_told ν c new e f known texts given s d el m r one few n symbol ps parts ds other more end g count =
+    let (less, last, h) = r.first in
+    let first : ds ≡ s.ds = given_same ν c e known texts given None s one ds (other ∷ more) end g count in
+    let both : ds ++ (other ∷ more) ≡ (s.ds ++ (d ∷ [])) ++ less =
+    (one (take known e.names) c.text.now (ds ++ (other ∷ more)) ((s.ds ++ (d ∷ [])) ++ less) end last g h).0 in
+    let next : ds ++ (other ∷ []) ≡ s.ds ++ (d ∷ []) =
+    same_front (ds ++ (other ∷ [])) (s.ds ++ (d ∷ [])) more less (append_assoc ds (other ∷ []) more ∙ both)
+    (length-append ds (other ∷ []) ∙ ap (λ x. length x + 1) first ∙ sym (length-append s.ds (d ∷ []))) in
+    let is : other ≡ d = last_same ds s.ds other d first next in
+    let names : f.names ≡ known_after (take known e.names) (names_of (ds ++ (other ∷ []))) =
+    names_behind ν (take known e.names) c.text.now s.ds d el new f m r ∙ ap (λ x. known_after (take known e.names) (names_of x)) (sym next) in
+    let made : table_answer (model_parts f.names d) ≡ Ok (tree_of f.names (words d.content)) =
+    model_made ν (take known e.names) c.text.now s.ds d el new f m r (few_front known e.names few) in
+    ap table_answer parts ∙ made ∙ ap (λ x. Ok (tree_of x (words d.content))) names
+    ∙ ap (λ x. Ok (tree_of (known_after (take known e.names) (names_of (ds ++ (other ∷ [])))) (words x.content))) (sym is)
+  where
+    last_same : (xs ys : List Declaration) (x y : Declaration) → xs ≡ ys → xs ++ (x ∷ []) ≡ ys ++ (y ∷ []) → x ≡ y
+    last_same xs ys x y same e =
+        let tail : x ∷ [] ≡ y ∷ [] =
+        sym (drop-append_seam xs (x ∷ [])) ∙ ap (drop (length xs)) e ∙ ap (λ n. drop n (ys ++ (y ∷ []))) (ap length same) ∙ drop-append_seam ys (y ∷ []) in
+        ap (λ zs. elim zs [ [] ↦ x | z ∷ rest ↦ z ]) tail
+
+    few_front : (k : ℕ) (names : List (List ℕ)) → length names ≤ 64 → length (take k names) ≤ 64
+    few_front k names few = omega (arith, length-take k names)
+
+-- at what a call was told
+pub at_some : (ν : Notation) (ks : List (List ℕ)) (bytes : List ℕ) (ds : List Declaration) (x : Option Element) (el : Element) (c : Cursor) (e : Elements) (m : Made)
+    → x ≡ Some el → Declared ν ks bytes ds (Ok x) c e m → (d : Declaration) × Declares ν ks bytes ds d el c e m
+at_some ν ks bytes ds x el c e m is h = subst (λ y. Declared ν ks bytes ds (Ok y) c e m) is h
+
+pub at_none : (ν : Notation) (ks : List (List ℕ)) (bytes : List ℕ) (ds : List Declaration) (x : Option Element) (c : Cursor) (e : Elements) (m : Made)
+    → x ≡ None → Declared ν ks bytes ds (Ok x) c e m → Gives ν ks bytes ds None × Between ν ks bytes ds c e
+at_none ν ks bytes ds x c e m is h = subst (λ y. Declared ν ks bytes ds (Ok y) c e m) is h
+
+pub at_fault : (ν : Notation) (c : Cursor) (e : Elements) (known texts given : ℕ) (fault : Option TextFault) (f : TextFault) → fault ≡ Some f
+    → Standing ν c e known texts given fault → Standing ν c e known texts given (Some f)
+at_fault ν c e known texts given fault f is s = subst (Standing ν c e known texts given) is s

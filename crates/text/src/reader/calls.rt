@@ -50,8 +50,9 @@ impl<'t, N: Notation + Drop> Reader<'t, N> {
                 length: sheet.len(),
             });
         }
-        if let Some(fault) = self.fault {
-            return Err(ReadRefusal::Text(fault));
+        match self.fault {
+            Some(fault) => return Err(ReadRefusal::Text(fault)),
+            None => {}
         }
         let known = self.elements.names.len();
         let mut made = Content::new();
@@ -59,12 +60,14 @@ impl<'t, N: Notation + Drop> Reader<'t, N> {
             .notation
             .declaration(&mut self.cursor, &mut self.elements, &mut made);
         match read {
-            Ok(Some(element)) => {
+            Ok(next) => {
+                let Some(element) = next else {
+                    return Ok(None);
+                };
                 let declared = deliver(element, &made, sheet)?;
                 self.given += 1;
                 Ok(Some(declared))
             }
-            Ok(None) => Ok(None),
             Err(misfit) => {
                 let fault = TextFault {
                     cause: misfit.cause,

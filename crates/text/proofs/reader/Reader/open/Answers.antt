@@ -1,8 +1,10 @@
-use Rattle.std.proofs.Common.{rules, ◌≡◌, ◌+◌, length, min, IfOk, IfSome, ℕ, ◌-◌, ◌*◌, ◌<◌, ◌≤◌, ◌/◌, ◌%◌, Bool, true, false, nat_eq, nat_lt, List, [], ◌∷◌, ◌++◌, slice_index_or, slice_set, bit_and, bit_or, Fits, w8, w32, w64, Bor, MutBor}
-use Rattle.grammar.specs.Faults.{GivesOne}
-use Rattle.text.specs.Law.{Reading, told, NextAsked, SheetAfter, reading_after, ModelTold, NamesKnown}
+use Rattle.std.proofs.Common.{subst, sym, refl}
+use Rattle.grammar.specs.Notations.{Notation}
+use Rattle.text.specs.Between.{GivesFirst}
+use Rattle.text.specs.Standing.{Standing}
+use Rattle.text.specs.Progress.{ElementsAre}
+use Rattle.text.proofs.Reading.{begins}
 use Rattle.text.proofs.reader.Reader.open.Goals as goal
 
--- src/reader/calls.rt:22:5
 pub invariant_of-result : goal.invariant_of-result
-invariant_of-result g c = ?
+invariant_of-result g c = begins _ _ _ _ _ _ c.new-2.ensures.same c.len-known.ensures.size c.new.ensures.at (c.new-2.ensures.first _) (g.met.N.Notation.some _ _)
