@@ -5,3 +5,4 @@ pub mod CursorLemmas
 pub mod Comments
 pub mod Walking
 pub mod Children
+pub mod Opening

@@ -1,0 +1,262 @@
+-- How a declaration begins and ends: over the gap before it, its word and its name, and over its '>'. Assumes nothing.
+use Rattle.std.proofs.Common.{◌≡◌, ℕ, suc, ◌+◌, ◌-◌, ◌<◌, ◌≤◌, ◌⊎◌, inl, inr, Bool, true, false, cond, ◌==◌, List, [], ◌∷◌, ◌++◌, length, get_or, take, drop, map, Some, None, Option, sym, refl, ap, ◌∙◌, subst, arith, length-append}
+use Rattle.std.specs.Prelude.{codes, Ok, Err}
+use Rattle.std.specs.Borrow.{Bor}
+use Rattle.std.specs.Option.{is_some}
+use Rattle.std.proofs.lemmas.List.{length-map, nil_from_length}
+use Rattle.std.proofs.lemmas.Bool.{eqb-true, false≢true}
+use Rattle.std.proofs.lemmas.Bool.Decides.{nat_tests}
+use Rattle.parts.specs.declared.part.Part.{Part}
+use Rattle.models.specs.Trees.{Tree}
+use Rattle.models.specs.Written.{subtrees, part_of, sheet}
+use Rattle.grammar.specs.Bytes.{is_blank, begins_name, IsName, NameEnds, Bit, AreBits, bits, comment}
+use Rattle.grammar.specs.Notations.Notation.{dtd}
+use Rattle.grammar.specs.Words.{Words}
+use Rattle.grammar.specs.Words.Words.{name, nothing, group, marked, joined}
+use Rattle.grammar.specs.Words.Join.{alt, next, both}
+use Rattle.grammar.specs.Words.Mark.{optional, repeated, any}
+use Rattle.grammar.specs.Words.Sign.{names, opens, closes, suffix, separator}
+use Rattle.grammar.specs.Declarations.{Content, Declaration, Sign, sign_bytes, words}
+use Rattle.grammar.specs.Declarations.Content.{text, children}
+use Rattle.grammar.specs.Declarations.Sign.{element, declared, inner, ends}
+use Rattle.grammar.specs.Meaning.{tree_of}
+use Rattle.grammar.specs.Faults.{Gives, PartsBeyond, parts_of, Faultless, names_among, begun, is_declared}
+use Rattle.grammar.specs.Faults.Cause.{kind}
+use Rattle.grammar.specs.Machine.{Spot, made, go, spelled, tight, refused, into, signed, sign_at, lettered, angled, hashed, feed_at, is_outside, spot_read}
+use Rattle.grammar.specs.Machine.Spot.{outside, opened, titled, kids, mixed, wanted, starless, grouped, full}
+use Rattle.grammar.specs.Machine.Fixed.{the_element}
+use Rattle.grammar.specs.Progress.{StandsAt, NotNext, NoCharNext}
+use Rattle.grammar.proofs.Steps.{passes_comment, stops_before_comment, stops_in_comment, ends_whole, spelled_on, ended_beyond}
+use Rattle.text.specs.Contents.{AllOf}
+use Rattle.text.specs.Cursors.{rest_of, Moved, Stayed, BlanksRead, NameRead, WordRead, CommentRead}
+use Rattle.text.specs.Declaring.{ReadTo, GapPast, GapRead, content_parts, Closes}
+use Rattle.text.specs.Fronts.{Past, Differs, Inside, Breaks, IsDashes, is_mark}
+use Rattle.text.specs.Progress.{ElementsAre, TakenIn, AtFaultBy, CursorAt, Fails}
+use Rattle.text.specs.declared.cursor.Cursor.{Cursor}
+use Rattle.text.specs.declared.elements.Elements.{Elements}
+use Rattle.text.specs.declared.fault.TextCause.{TextCause}
+use Rattle.text.specs.declared.fault.TextCause.TheVariants.{NotDeclarations, TooManyParts}
+use Rattle.text.proofs.Walking.{placed, rest_is, stays_at, over_blanks, over_sign, sign_fails, Refuses, byte_fails, word_fails}
+
+-- what is left where nothing was read, and behind white space
+pub stayed_rest : (old new : Cursor) → Stayed old new → rest_of new ≡ rest_of old
+stayed_rest old new s = ap (λ k. drop k new.text.now) s.1 ∙ ap (drop old.at) s.0
+
+pub blanks_past : (old new : Cursor) (b : Bool) → BlanksRead old b new → Past is_blank (rest_of new)
+blanks_past old new true x = x.1
+blanks_past old new false x = x.1
+
+-- reading still stands between the same declarations
+abbrev pub StaysBetween : Cursor → Cursor → Type 0
+StaysBetween old new =
+    (ks : List (List ℕ)) (bytes : List ℕ) (ds : List Declaration) (h : Bool) → CursorAt ks bytes (outside ds) h old → (g : Bool) × CursorAt ks bytes (outside ds) g new
+
+pub over_comment : (ks : List (List ℕ)) (bytes : List ℕ) (ds : List Declaration) (h : Bool) (us : List Bit) (old new : Cursor) → CursorAt ks bytes (outside ds) h old → AreBits us
+    → Moved old (comment (bits us)) new → CursorAt ks bytes (outside ds) true new
+over_comment ks bytes ds h us old new r are m = record {
+  text = m.same ∙ r.text;
+  at =
+      subst (λ k. StandsAt ks bytes k (outside ds) true) (sym m.at)
+      (passes_comment ks bytes old.at ds h us (rest_of new) r.at are (rest_is ks bytes (outside ds) h old r ∙ m.read));
+}
+
+-- the gap: over white space and a comment
+past_blanks : (start a b : Cursor) (k : Bool) → StaysBetween start a → BlanksRead a k b → StaysBetween start b
+past_blanks start a b k so blank ks bytes ds h r =
+    let (g, at) = so ks bytes ds h r in
+    (cond k true g, over_blanks ks bytes (outside ds) g k a b at refl blank)
+
+pub between_on : (start a b c : Cursor) (k : Bool) {t : Bool} → StaysBetween start a → BlanksRead a k b → CommentRead b (Ok t) c → t ≡ true → StaysBetween start c
+between_on start a b c k {t} so blank read e ks bytes ds h r =
+    let (us, are, m) = subst (λ x. CommentRead b (Ok x) c) e read in
+    let (g, at) = past_blanks start a b k so blank ks bytes ds h r in
+    (true, over_comment ks bytes ds g us b c at are m)
+
+no_less : (a b : Cursor) (k : Bool) → BlanksRead a k b → (b.text.now ≡ a.text.now) × (a.at ≤ b.at)
+no_less a b true ((g, is, m), past) = (m.same, omega (arith, m.at))
+no_less a b false (s, past) = (s.0, omega (arith, s.1))
+
+pub gap_smaller : (a b c : Cursor) (k : Bool) {t : Bool} → BlanksRead a k b → CommentRead b (Ok t) c → t ≡ true → length c.text.now - c.at < length a.text.now - a.at
+gap_smaller a b c k {t} blank read e =
+    let (us, are, m) = subst (λ x. CommentRead b (Ok x) c) e read in
+    let (same, le) = no_less a b k blank in
+    let size : length c.text.now ≡ length a.text.now = ap length (m.same ∙ same) in
+    omega (arith, m.at, c.inside)
+
+-- where it ends
+pub gap_read : (start a b c : Cursor) (k : Bool) {t : Bool} → StaysBetween start a → BlanksRead a k b → CommentRead b (Ok t) c → t ≡ false
+    → (ks : List (List ℕ)) (bytes : List ℕ) (ds : List Declaration) (h : Bool) → CursorAt ks bytes (outside ds) h start → GapRead ks bytes ds (Ok tt) c
+gap_read start a b c k {t} so blank read e ks bytes ds h r =
+    let (s, none) = subst (λ x. CommentRead b (Ok x) c) e read in
+    let (g, at) = past_blanks start a b k so blank ks bytes ds h r in
+    ((g, stays_at ks bytes (outside ds) g b c at s), (subst (Past is_blank) (sym (stayed_rest b c s)) (blanks_past a b k blank), none))
+
+-- a comment that does not end
+in_comment : (ks : List (List ℕ)) (bytes : List ℕ) (ds : List Declaration) (h : Bool) (us : List Bit) (done rest : List ℕ) (c : Cursor) (i : ℕ) → CursorAt ks bytes (outside ds) h c
+    → AreBits us → IsDashes done → Breaks done rest → rest_of c ≡ codes "<!--" ++ (bits us ++ (done ++ rest)) → i ≡ c.at + 4 + (length (bits us) + length done)
+    → Gives dtd ks bytes ds (Some (kind, i))
+in_comment ks bytes ds h us [] rest c i r are is stop e place =
+    let same : c.at + 4 + length (bits us) ≡ i = omega arith in
+    subst (λ k. Gives dtd ks bytes ds (Some (kind, k))) same
+    ((stops_in_comment ks bytes c.at ds h us rest r.at are).0 (rest_is ks bytes (outside ds) h c r ∙ e) (no_char rest stop))
+  where
+    no_char : (rest : List ℕ) → Breaks [] rest → NoCharNext rest
+    no_char [] x = tt
+    no_char (b ∷ rest) x = x.1
+in_comment ks bytes ds h us (x ∷ []) rest c i r are is stop e place =
+    let same : c.at + 5 + length (bits us) ≡ i = omega arith in
+    subst (λ k. Gives dtd ks bytes ds (Some (kind, k))) same
+    ((stops_in_comment ks bytes c.at ds h us rest r.at are).1
+    (rest_is ks bytes (outside ds) h c r ∙ (e ∙ ap (λ y. codes "<!--" ++ (bits us ++ (y ∷ rest))) is)) (no_char rest stop))
+  where
+    no_char : (rest : List ℕ) → Breaks (x ∷ []) rest → NoCharNext rest
+    no_char [] z = tt
+    no_char (b ∷ rest) z = z.1
+in_comment ks bytes ds h us (x ∷ y ∷ []) rest c i r are is stop e place =
+    let same : c.at + 6 + length (bits us) ≡ i = omega arith in
+    subst (λ k. Gives dtd ks bytes ds (Some (kind, k))) same
+    ((stops_in_comment ks bytes c.at ds h us rest r.at are).2
+    (rest_is ks bytes (outside ds) h c r
+    ∙ (e ∙ ap (λ z. codes "<!--" ++ (bits us ++ (z ∷ y ∷ rest))) is.0 ∙ ap (λ z. codes "<!--" ++ (bits us ++ (45 ∷ z ∷ rest))) is.1)) (no_end rest stop))
+  where
+    no_end : (rest : List ℕ) → Breaks (x ∷ y ∷ []) rest → NotNext 62 rest
+    no_end [] z = tt
+    no_end (b ∷ rest) z = z
+in_comment ks bytes ds h us (x ∷ y ∷ z ∷ done) rest c i r are is stop e place = absurd is
+
+not_next : (b : ℕ) (rest : List ℕ) → Differs (b ∷ []) rest → NotNext b rest
+not_next b [] d = tt
+not_next b (x ∷ rest) d = d
+
+comment_fails : (ks : List (List ℕ)) (bytes : List ℕ) (ds : List Declaration) (h : Bool) (old new : Cursor) (place : ℕ) → CursorAt ks bytes (outside ds) h old
+    → CommentRead old (Err place) new → Gives dtd ks bytes ds (Some (kind, place))
+comment_fails ks bytes ds h old new place r (inl (rest, e, stop, is)) =
+    subst (λ k. Gives dtd ks bytes ds (Some (kind, k))) (sym is)
+    (stops_before_comment ks bytes old.at ds h rest r.at (rest_is ks bytes (outside ds) h old r ∙ e) (not_next 45 rest stop))
+comment_fails ks bytes ds h old new place r (inr (rest, n, e, (us, done, left, are, dashes, breaks, size, split), is)) =
+    in_comment ks bytes ds h us done left old place r are dashes breaks (e ∙ ap (λ x. codes "<!--" ++ x) split) (is ∙ ap (λ k. old.at + 4 + k) size)
+
+pub gap_fails : (start a b c : Cursor) (k : Bool) (place : ℕ) → StaysBetween start a → BlanksRead a k b → CommentRead b (Err place) c → (ks : List (List ℕ)) (bytes : List ℕ)
+    (ds : List Declaration) (h : Bool) → CursorAt ks bytes (outside ds) h start → Fails dtd ks bytes ds (placed NotDeclarations place)
+gap_fails start a b c k place so blank read ks bytes ds h r =
+    let (g, at) = past_blanks start a b k so blank ks bytes ds h r in
+    (comment_fails ks bytes ds g b c place at read, inl refl)
+
+-- a byte that is no sign where a sign is refused
+not_signed : (g : Bool) (σ : Spot) (s : Sign) (t : Bool) (o : Option Sign) → (t ≡ true → signed g σ (Some s) ≡ None) → signed g σ o ≡ None → signed g σ (cond t (Some s) o) ≡ None
+not_signed g σ s true o here behind = here refl
+not_signed g σ s false o here behind = behind
+
+-- the eight signs of one byte are refused, where that byte stands
+abbrev pub Unsigned : Bool → Spot → ℕ → Type 0
+Unsigned g σ b =
+    ((b == 40) ≡ true → signed g σ (Some (inner opens)) ≡ None)
+    × ((b == 41) ≡ true → signed g σ (Some (inner closes)) ≡ None)
+    × ((b == 63) ≡ true → signed g σ (Some (inner (suffix optional))) ≡ None)
+    × ((b == 43) ≡ true → signed g σ (Some (inner (suffix repeated))) ≡ None)
+    × ((b == 42) ≡ true → signed g σ (Some (inner (suffix any))) ≡ None)
+    × ((b == 124) ≡ true → signed g σ (Some (inner (separator alt))) ≡ None)
+    × ((b == 44) ≡ true → signed g σ (Some (inner (separator next))) ≡ None)
+    × ((b == 62) ≡ true → signed g σ (Some ends) ≡ None)
+
+pub unsigned : (g : Bool) (σ : Spot) (b : ℕ) → Unsigned g σ b → signed g σ (sign_at b) ≡ None
+unsigned g σ b (u0, u1, u2, u3, u4, u5, u6, u7) =
+    not_signed g σ (inner opens) (b == 40) _ u0
+    (not_signed g σ (inner closes) (b == 41) _ u1
+    (not_signed g σ (inner (suffix optional)) (b == 63) _ u2
+    (not_signed g σ (inner (suffix repeated)) (b == 43) _ u3
+    (not_signed g σ (inner (suffix any)) (b == 42) _ u4
+    (not_signed g σ (inner (separator alt)) (b == 124) _ u5
+    (not_signed g σ (inner (separator next)) (b == 44) _ u6
+    (not_signed g σ ends (b == 62) None u7 refl)))))))
+
+-- a byte other than white space, where neither letters nor '<' and '#' lead on
+pub byte_refused : (σ : Spot) (h : Bool) (b : ℕ) → is_blank b ≡ false → (begins_name b ≡ true → lettered σ h b ≡ None) → ((b == 60) ≡ true → angled σ ≡ None) → hashed σ ≡ None
+    → signed h σ (sign_at b) ≡ None → feed_at σ h b ≡ None
+byte_refused σ h b blank letter angle hash sign = rw blank (by_name (begins_name b) letter)
+  where
+    by_hash : (t : Bool) → cond t (hashed σ) (signed h σ (sign_at b)) ≡ None
+    by_hash true = hash
+    by_hash false = sign
+
+    by_angle : (t : Bool) → (t ≡ true → angled σ ≡ None) → cond t (angled σ) (cond (b == 35) (hashed σ) (signed h σ (sign_at b))) ≡ None
+    by_angle true e = e refl
+    by_angle false e = by_hash (b == 35)
+
+    by_name : (t : Bool) → (t ≡ true → lettered σ h b ≡ None)
+        → cond t (lettered σ h b) (cond (b == 60) (angled σ) (cond (b == 35) (hashed σ) (signed h σ (sign_at b)))) ≡ None
+    by_name true e = e refl
+    by_name false e = by_angle (b == 60) angle
+
+-- between declarations only '<' is taken
+outside_unsigned : (ds : List Declaration) (h : Bool) (b : ℕ) → Unsigned h (outside ds) b
+outside_unsigned ds true b =
+    ((λ e. refl), (λ e. refl), (λ e. refl), (λ e. refl), (λ e. refl), (λ e. refl), (λ e. refl), (λ e. refl))
+outside_unsigned ds false b =
+    ((λ e. refl), (λ e. refl), (λ e. refl), (λ e. refl), (λ e. refl), (λ e. refl), (λ e. refl), (λ e. refl))
+
+pub outside_refused : (ds : List Declaration) (h : Bool) (b : ℕ) → is_blank b ≡ false → (b == 60) ≡ false → feed_at (outside ds) h b ≡ None
+outside_refused ds h b blank other =
+    byte_refused (outside ds) h b blank (λ e. refl) (λ e. absurd (false≢true (sym other ∙ e))) refl
+    (unsigned h (outside ds) b (outside_unsigned ds h b))
+
+-- the text ends
+pub begin_none : (ks : List (List ℕ)) (bytes : List ℕ) (ds : List Declaration) (c : Cursor) (e : Elements) (rest : List ℕ) {t : Bool} → GapRead ks bytes ds (Ok tt) c
+    → ElementsAre dtd ks (spelled (outside ds)) e → rest ≡ rest_of c → t ≡ (length rest == 0) → t ≡ true
+    → Gives dtd ks bytes ds None × ((h : Bool) × ReadTo ks bytes (outside ds) h c e)
+begin_none ks bytes ds c e rest ((h, r), past) are same is empty = (
+  ends_whole ks bytes c.at ds h r.at (rest_is ks bytes (outside ds) h c r ∙ (sym same ∙ nil_from_length rest (eqb-true (length rest) 0 (sym is ∙ empty)))),
+  (h, record { cursor = r; elements = are }),
+)
+
+-- or no declaration begins
+begin_stops : (ks : List (List ℕ)) (bytes : List ℕ) (ds : List Declaration) (h : Bool) (c : Cursor) (done left rest : List ℕ) → CursorAt ks bytes (outside ds) h c → GapPast (rest_of c)
+    → 0 < length (rest_of c) → codes "<!ELEMENT" ≡ done ++ left → rest_of c ≡ done ++ rest → Differs left rest
+    → Fails dtd ks bytes ds (placed NotDeclarations (c.at + length done))
+begin_stops ks bytes ds h c [] left [] r past some w e d = absurd (omega (arith, ap length e))
+begin_stops ks bytes ds h c [] left (b ∷ rest) r past some w e d =
+    let here : c.at ≡ c.at + 0 = omega arith in
+    subst (λ k. Fails dtd ks bytes ds (placed NotDeclarations k)) here
+    (byte_fails ks bytes (outside ds) h (b ∷ rest) c r e
+    (outside_refused ds h b (subst (Past is_blank) e past.0) (subst (λ ws. Differs ws (b ∷ rest)) (sym w) d)))
+begin_stops ks bytes ds h c (x ∷ done) left rest r past some w e d =
+    word_fails ks bytes (outside ds) h (the_element ds) (x ∷ done) left rest c r refl (free h) w (omega arith) e d
+    (λ two. no_dash rest (λ more bar. past.1 more (e ∙ ap (λ ws. ws ++ rest) two ∙ ap (λ ws. 60 ∷ 33 ∷ ws) bar)))
+  where
+    free : (h : Bool) → refused h (outside ds) element ≡ false
+    free true = refl
+    free false = refl
+
+    no_dash : (rest : List ℕ) → ((more : List ℕ) → rest ≡ 45 ∷ more → ⊥) → NotNext 45 rest
+    no_dash [] never = tt
+    no_dash (b ∷ rest) never = by (b == 45) refl
+      where
+        by : (t : Bool) → (b == 45) ≡ t → (b == 45) ≡ false
+        by true is = absurd (never rest (ap (λ x. x ∷ rest) (eqb-true b 45 is)))
+        by false is = is
+
+pub begin_misses : (ks : List (List ℕ)) (bytes : List ℕ) (ds : List Declaration) (old new : Cursor) (rest : List ℕ) (place : ℕ) {t : Bool} → GapRead ks bytes ds (Ok tt) old
+    → rest ≡ rest_of old → t ≡ (length rest == 0) → t ≡ false → WordRead old (codes "<!ELEMENT") (Err place) new → Fails dtd ks bytes ds (placed NotDeclarations place)
+begin_misses ks bytes ds old new rest place ((h, r), past) same is some (s, (done, left, behind, w, e, d, p)) =
+    subst (λ k. Fails dtd ks bytes ds (placed NotDeclarations k)) (sym p)
+    (begin_stops ks bytes ds h old done left behind r past (subst (λ xs. 0 < length xs) same (more (length rest) (sym is ∙ some))) w e d)
+  where
+    more : (n : ℕ) → (n == 0) ≡ false → 0 < n
+    more n x = grind (arith, nat_tests)
+
+-- or one does
+may_begin : (ds : List Declaration) (h : Bool) → refused h (outside ds) element ≡ false
+may_begin ds true = refl
+may_begin ds false = refl
+
+pub begin_reads : (ks : List (List ℕ)) (bytes : List ℕ) (ds : List Declaration) (old new : Cursor) (f : Elements) (u : Unit {0}) → GapRead ks bytes ds (Ok tt) old
+    → Moved old (codes "<!ELEMENT") new → TakenIn dtd ks (spelled (outside ds)) element (Ok u) f → ReadTo ks bytes (opened ds) false new f
+begin_reads ks bytes ds old new f u ((h, r), past) m (one, taken) = record {
+  cursor = over_sign ks bytes (outside ds) h element (opened ds) old new r (may_begin ds h) refl tt m tt one;
+  elements = taken;
+}
+
+pub begin_fails : (ks : List (List ℕ)) (bytes : List ℕ) (ds : List Declaration) (old new : Cursor) (cause : TextCause) → GapRead ks bytes ds (Ok tt) old
+    → Moved old (codes "<!ELEMENT") new → AtFaultBy dtd ks (spelled (outside ds)) element cause → Fails dtd ks bytes ds (placed cause old.at)
+begin_fails ks bytes ds old new cause ((h, r), past) m bad =
+    sign_fails ks bytes (outside ds) h element (opened ds) cause (rest_of new) old r (may_begin ds h) refl tt m.read tt bad
