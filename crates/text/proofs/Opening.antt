@@ -29,13 +29,14 @@ use Rattle.grammar.specs.Progress.{StandsAt, NotNext, NoCharNext}
 use Rattle.grammar.proofs.Steps.{passes_comment, stops_before_comment, stops_in_comment, ends_whole, spelled_on, ended_beyond}
 use Rattle.text.specs.Contents.{AllOf}
 use Rattle.text.specs.Cursors.{rest_of, Moved, Stayed, BlanksRead, NameRead, WordRead, CommentRead}
-use Rattle.text.specs.Declaring.{ReadTo, GapPast, GapRead, content_parts, Closes}
+use Rattle.text.specs.Declaring.{ReadTo, WordTaken, GapPast, GapRead, content_parts, Closes}
 use Rattle.text.specs.Fronts.{Past, Differs, Inside, Breaks, IsDashes, is_mark}
 use Rattle.text.specs.Progress.{ElementsAre, TakenIn, AtFaultBy, CursorAt, Fails}
 use Rattle.text.specs.declared.cursor.Cursor.{Cursor}
 use Rattle.text.specs.declared.elements.Elements.{Elements}
 use Rattle.text.specs.declared.fault.TextCause.{TextCause}
 use Rattle.text.specs.declared.fault.TextCause.TheVariants.{NotDeclarations, TooManyParts}
+use Rattle.text.specs.declared.fault.PlacedCause.{PlacedCause}
 use Rattle.text.proofs.Walking.{placed, rest_is, stays_at, over_blanks, over_sign, sign_fails, Refuses, byte_fails, word_fails}
 
 -- what is left where nothing was read, and behind white space
@@ -235,10 +236,10 @@ begin_stops ks bytes ds h c (x ∷ done) left rest r past some w e d =
         by true is = absurd (never rest (ap (λ x. x ∷ rest) (eqb-true b 45 is)))
         by false is = is
 
-pub begin_misses : (ks : List (List ℕ)) (bytes : List ℕ) (ds : List Declaration) (old new : Cursor) (rest : List ℕ) (place : ℕ) {t : Bool} → GapRead ks bytes ds (Ok tt) old
-    → rest ≡ rest_of old → t ≡ (length rest == 0) → t ≡ false → WordRead old (codes "<!ELEMENT") (Err place) new → Fails dtd ks bytes ds (placed NotDeclarations place)
-begin_misses ks bytes ds old new rest place ((h, r), past) same is some (s, (done, left, behind, w, e, d, p)) =
-    subst (λ k. Fails dtd ks bytes ds (placed NotDeclarations k)) (sym p)
+pub begin_misses : (ks : List (List ℕ)) (bytes : List ℕ) (ds : List Declaration) (old new : Cursor) (rest : List ℕ) (f : PlacedCause) {t : Bool} → GapRead ks bytes ds (Ok tt) old
+    → rest ≡ rest_of old → t ≡ (length rest == 0) → t ≡ false → WordTaken old (codes "<!ELEMENT") (Err f) new → Fails dtd ks bytes ds f
+begin_misses ks bytes ds old new rest f ((h, r), past) same is some (cause, (s, (done, left, behind, w, e, d, place))) =
+    subst (Fails dtd ks bytes ds) (ap (λ k. placed NotDeclarations k) (sym place) ∙ ap (λ x. placed x f.place) (sym cause))
     (begin_stops ks bytes ds h old done left behind r past (subst (λ xs. 0 < length xs) same (more (length rest) (sym is ∙ some))) w e d)
   where
     more : (n : ℕ) → (n == 0) ≡ false → 0 < n
@@ -260,3 +261,120 @@ pub begin_fails : (ks : List (List ℕ)) (bytes : List ℕ) (ds : List Declarati
     → Moved old (codes "<!ELEMENT") new → AtFaultBy dtd ks (spelled (outside ds)) element cause → Fails dtd ks bytes ds (placed cause old.at)
 begin_fails ks bytes ds old new cause ((h, r), past) m bad =
     sign_fails ks bytes (outside ds) h element (opened ds) cause (rest_of new) old r (may_begin ds h) refl tt m.read tt bad
+
+-- a name that is declared: behind white space
+opened_unsigned : (ds : List Declaration) (h : Bool) (b : ℕ) → Unsigned h (opened ds) b
+opened_unsigned ds true b =
+    ((λ e. refl), (λ e. refl), (λ e. refl), (λ e. refl), (λ e. refl), (λ e. refl), (λ e. refl), (λ e. refl))
+opened_unsigned ds false b =
+    ((λ e. refl), (λ e. refl), (λ e. refl), (λ e. refl), (λ e. refl), (λ e. refl), (λ e. refl), (λ e. refl))
+
+unspaced : (ds : List Declaration) (rest : List ℕ) → Past is_blank rest → Refuses (opened ds) false rest
+unspaced ds [] past = refl
+unspaced ds (b ∷ rest) past =
+    byte_refused (opened ds) false b past (λ e. refl) (λ e. refl) refl (unsigned false (opened ds) b (opened_unsigned ds false b))
+
+pub title_unspaced : (ks : List (List ℕ)) (bytes : List ℕ) (ds : List Declaration) (old new : Cursor) {t : Bool} → CursorAt ks bytes (opened ds) false old
+    → BlanksRead old t new → t ≡ false → Fails dtd ks bytes ds (placed NotDeclarations new.at)
+title_unspaced ks bytes ds old new {t} r blank none =
+    let (s, past) = subst (λ b. BlanksRead old b new) none blank in
+    byte_fails ks bytes (opened ds) false (rest_of new) new (stays_at ks bytes (opened ds) false old new r s) refl (unspaced ds (rest_of new) past)
+
+unnamed : (ds : List Declaration) (rest : List ℕ) → Past is_blank rest → Past begins_name rest → Refuses (opened ds) true rest
+unnamed ds [] past none = refl
+unnamed ds (b ∷ rest) past none =
+    byte_refused (opened ds) true b past (λ e. absurd (false≢true (sym none ∙ e))) (λ e. refl) refl (unsigned true (opened ds) b (opened_unsigned ds true b))
+
+title_behind : (ks : List (List ℕ)) (bytes : List ℕ) (ds : List Declaration) (old new : Cursor) {t : Bool} → CursorAt ks bytes (opened ds) false old
+    → BlanksRead old t new → t ≡ true → CursorAt ks bytes (opened ds) true new
+title_behind ks bytes ds old new {t} r blank some =
+    over_blanks ks bytes (opened ds) false true old new r refl (subst (λ b. BlanksRead old b new) some blank)
+
+pub title_missing : (ks : List (List ℕ)) (bytes : List ℕ) (ds : List Declaration) (old mid new : Cursor) {t : Bool} → CursorAt ks bytes (opened ds) false old
+    → BlanksRead old t mid → t ≡ true → NameRead mid None new → Fails dtd ks bytes ds (placed NotDeclarations new.at)
+title_missing ks bytes ds old mid new {t} r blank some (s, none) =
+    byte_fails ks bytes (opened ds) true (rest_of new) new (stays_at ks bytes (opened ds) true mid new (title_behind ks bytes ds old mid r blank some) s) refl
+    (unnamed ds (rest_of new) (subst (Past is_blank) (sym (stayed_rest mid new s)) (blanks_past old mid t blank)) none)
+
+pub title_read : (ks : List (List ℕ)) (bytes : List ℕ) (ds : List Declaration) (n : List ℕ) (old mid new : Cursor) (f : Elements) (s : ℕ) {t : Bool}
+    → CursorAt ks bytes (opened ds) false old → BlanksRead old t mid → t ≡ true → Moved mid n new → IsName n → NameEnds (rest_of new)
+    → TakenIn dtd ks (spelled (opened ds)) (declared n) (Ok s) f → ReadTo ks bytes (titled ds n) false new f
+title_read ks bytes ds n old mid new f s {t} r blank some moved is whole (one, taken) =
+    let at = title_behind ks bytes ds old mid r blank some in record {
+      cursor = over_sign ks bytes (opened ds) true (declared n) (titled ds n) mid new at refl refl is moved whole one;
+      elements = subst (λ ss. ElementsAre dtd ks ss f) (sym (spelled_on ks bytes mid.at (opened ds) true (declared n) (titled ds n) at.at refl)) taken;
+    }
+
+pub title_fails : (ks : List (List ℕ)) (bytes : List ℕ) (ds : List Declaration) (n : List ℕ) (old mid new : Cursor) (cause : TextCause) {t : Bool}
+    → CursorAt ks bytes (opened ds) false old → BlanksRead old t mid → t ≡ true → Moved mid n new → IsName n → NameEnds (rest_of new)
+    → AtFaultBy dtd ks (spelled (opened ds)) (declared n) cause → Fails dtd ks bytes ds (placed cause mid.at)
+title_fails ks bytes ds n old mid new cause {t} r blank some moved is whole bad =
+    sign_fails ks bytes (opened ds) true (declared n) (titled ds n) cause (rest_of new) mid (title_behind ks bytes ds old mid r blank some) refl refl is moved.read whole bad
+
+-- the number of parts does not depend on the known names
+same_size : (ks js : List (List ℕ)) (w : Words) → length (subtrees (tree_of ks w)) ≡ length (subtrees (tree_of js w))
+same_size ks js (name n) = refl
+same_size ks js nothing = refl
+same_size ks js (group w) = same_size ks js w
+same_size ks js (marked w optional) = let same = same_size ks js w in simp length-append (omega arith)
+same_size ks js (marked w repeated) = let same = same_size ks js w in simp length-append (omega arith)
+same_size ks js (marked w any) = let same = same_size ks js w in simp length-append (omega arith)
+same_size ks js (joined l alt r) = let left = same_size ks js l in let right = same_size ks js r in simp length-append (omega arith)
+same_size ks js (joined l next r) = let left = same_size ks js l in let right = same_size ks js r in simp length-append (omega arith)
+same_size ks js (joined l both r) = let left = same_size ks js l in let right = same_size ks js r in simp length-append (omega arith)
+
+pub same_number : (ks js : List (List ℕ)) (w : Words) → length (sheet (tree_of ks w)) ≡ length (sheet (tree_of js w))
+same_number ks js w = length-map (subtrees (tree_of ks w)) part_of ∙ same_size ks js w ∙ sym (length-map (subtrees (tree_of js w)) part_of)
+
+pub content_number : (ks js : List (List ℕ)) (k : Content) → length (content_parts k ks) ≡ length (content_parts k js)
+content_number ks js k = same_number ks js (words k)
+
+-- where a declaration may end
+pub record Ending (ds : List Declaration) (n : List ℕ) (k : Content) (σ : Spot) : Type 0 where
+  pub loose : tight σ ≡ false
+  pub goes : go σ ends ≡ Some (outside (ds ++ (made n k ∷ [])))
+  pub read : spot_read σ ≡ ds
+  pub inside : is_outside σ ≡ false
+  pub letters : (h : Bool) (b : ℕ) → lettered σ h b ≡ None
+  pub angles : angled σ ≡ None
+  pub hashes : hashed σ ≡ None
+
+ending : (ds : List Declaration) (n : List ℕ) (k : Content) (σ : Spot) (rest : List ℕ) → Closes ds n k σ rest → Ending ds n k σ
+ending ds n k (outside es) rest x = absurd x
+ending ds n k (opened es) rest x = absurd x
+ending ds n k (titled es m) rest x = absurd x
+ending ds n k (kids es m σ) rest x = absurd x
+ending ds n k (mixed es m ns) rest x = absurd x
+ending ds n k (wanted es m ns) rest x = absurd x
+ending ds n k (starless es m []) rest x = record {
+  loose = refl;
+  goes = rw (x.0, x.1, x.2.0) refl;
+  read = x.0;
+  inside = refl;
+  letters = (λ h b. refl);
+  angles = refl;
+  hashes = refl;
+}
+ending ds n k (starless es m (q ∷ qs)) rest x = absurd x
+ending ds n k (grouped es m v) rest x = record {
+  loose = refl;
+  goes = rw (x.0, x.1, x.2.0) refl;
+  read = x.0;
+  inside = refl;
+  letters = (λ h b. refl);
+  angles = refl;
+  hashes = refl;
+}
+ending ds n k (full es m v) rest x = record {
+  loose = refl;
+  goes = rw (x.0, x.1, x.2) refl;
+  read = x.0;
+  inside = refl;
+  letters = (λ h b. refl);
+  angles = refl;
+  hashes = refl;
+}
+
+-- only '>' is taken there, and a suffix where none was looked for
+not_end : (b : ℕ) → (b == 62) ≡ false → (b == 62) ≡ true → {X : Type 0} → X
+not_end b no yes = absurd (false≢true (sym no ∙ yes))

@@ -20,7 +20,9 @@ returns-then-is_empty-clause-begun c ks bytes ds h r =
 pub returns-in_err-word-clause-begun : goal.returns-in_err-word-clause-begun
 returns-in_err-word-clause-begun c ks bytes ds h r =
     let p = err_from_is_err_and c.from_residual-in_err-word.result c.from_residual-in_err-word.ensures.1 in
-    rw (p.1, p.2) ?
+    rw (p.1, p.2)
+    (begin_misses ks bytes ds c.gap.new.cursor c.word.new.cursor c.rest.result.now c.in_err-word.field-0.0 (c.in_ok-gap.ensures ks bytes ds h r.cursor) c.rest.ensures
+    c.is_empty.ensures c.if-is_empty.false c.in_err-word.ensures)
 
 pub returns-in-Ok-clause-begun : goal.returns-in-Ok-clause-begun
 returns-in-Ok-clause-begun c ks bytes ds h r =
