@@ -1,10 +1,10 @@
 -- How a declaration begins and ends: over the gap before it, its word and its name, and over its '>'. Assumes nothing.
-use Rattle.std.proofs.Common.{◌≡◌, ℕ, suc, ◌+◌, ◌-◌, ◌<◌, ◌≤◌, ◌⊎◌, inl, inr, Bool, true, false, cond, ◌==◌, List, [], ◌∷◌, ◌++◌, length, get_or, take, drop, map, Some, None, Option, sym, refl, ap, ◌∙◌, subst, arith, length-append}
+use Rattle.std.proofs.Common.{◌≡◌, ℕ, suc, ◌+◌, ◌-◌, ◌<◌, ◌≤◌, ◌⊎◌, inl, inr, Bool, true, false, cond, ◌==◌, ◌||◌, List, [], ◌∷◌, ◌++◌, length, get_or, take, drop, map, Some, None, Option, sym, refl, ap, ◌∙◌, subst, arith, length-append}
 use Rattle.std.specs.Prelude.{codes, Ok, Err}
 use Rattle.std.specs.Borrow.{Bor}
 use Rattle.std.specs.Option.{is_some}
 use Rattle.std.proofs.lemmas.List.{length-map, nil_from_length}
-use Rattle.std.proofs.lemmas.Bool.{eqb-true, false≢true}
+use Rattle.std.proofs.lemmas.Bool.{eqb-true, false≢true, or_parts}
 use Rattle.std.proofs.lemmas.Bool.Decides.{nat_tests}
 use Rattle.parts.specs.declared.part.Part.{Part}
 use Rattle.models.specs.Trees.{Tree}
@@ -16,9 +16,11 @@ use Rattle.grammar.specs.Words.Words.{name, nothing, group, marked, joined}
 use Rattle.grammar.specs.Words.Join.{alt, next, both}
 use Rattle.grammar.specs.Words.Mark.{optional, repeated, any}
 use Rattle.grammar.specs.Words.Sign.{names, opens, closes, suffix, separator}
-use Rattle.grammar.specs.Declarations.{Content, Declaration, Sign, sign_bytes, words}
+use Rattle.grammar.specs.Declarations.{Content, Declaration, Sign, sign_bytes, words, all_names}
 use Rattle.grammar.specs.Declarations.Content.{text, children}
 use Rattle.grammar.specs.Declarations.Sign.{element, declared, inner, ends}
+use Rattle.std.specs.Str.{bytes_eq}
+use Rattle.names.specs.Numbering.{known_after}
 use Rattle.grammar.specs.Meaning.{tree_of}
 use Rattle.grammar.specs.Faults.{Gives, PartsBeyond, parts_of, Faultless, names_among, begun, is_declared}
 use Rattle.grammar.specs.Faults.Cause.{kind}
@@ -329,17 +331,31 @@ same_number ks js w = length-map (subtrees (tree_of ks w)) part_of ∙ same_size
 pub content_number : (ks js : List (List ℕ)) (k : Content) → length (content_parts k ks) ≡ length (content_parts k js)
 content_number ks js k = same_number ks js (words k)
 
+-- the parts, where they were asked for
+pub too_many : (all : List Part) (r : Option (Bor (List Part))) → AllOf all r → is_some r ≡ false → 256 < length all
+too_many all None x e = x
+too_many all (Some some) x e = absurd (false≢true (sym e))
+
+pub not_too_many : (all : List Part) (r : Option (Bor (List Part))) → AllOf all r → is_some r ≡ true → length all ≤ 256
+not_too_many all None x e = absurd (false≢true e)
+not_too_many all (Some some) x e = x.1
+
 -- where a declaration may end
 pub record Ending (ds : List Declaration) (n : List ℕ) (k : Content) (σ : Spot) : Type 0 where
   pub loose : tight σ ≡ false
   pub goes : go σ ends ≡ Some (outside (ds ++ (made n k ∷ [])))
   pub read : spot_read σ ≡ ds
   pub inside : is_outside σ ≡ false
+  pub free : (h : Bool) → refused h σ ends ≡ false
   pub letters : (h : Bool) (b : ℕ) → lettered σ h b ≡ None
   pub angles : angled σ ≡ None
   pub hashes : hashed σ ≡ None
 
-ending : (ds : List Declaration) (n : List ℕ) (k : Content) (σ : Spot) (rest : List ℕ) → Closes ds n k σ rest → Ending ds n k σ
+either : (h : Bool) → cond h false false ≡ false
+either true = refl
+either false = refl
+
+pub ending : (ds : List Declaration) (n : List ℕ) (k : Content) (σ : Spot) (rest : List ℕ) → Closes ds n k σ rest → Ending ds n k σ
 ending ds n k (outside es) rest x = absurd x
 ending ds n k (opened es) rest x = absurd x
 ending ds n k (titled es m) rest x = absurd x
@@ -348,9 +364,10 @@ ending ds n k (mixed es m ns) rest x = absurd x
 ending ds n k (wanted es m ns) rest x = absurd x
 ending ds n k (starless es m []) rest x = record {
   loose = refl;
-  goes = rw (x.0, x.1, x.2.0) refl;
+  goes = rw (x.0, x.1, x.2) refl;
   read = x.0;
   inside = refl;
+  free = either;
   letters = (λ h b. refl);
   angles = refl;
   hashes = refl;
@@ -358,9 +375,10 @@ ending ds n k (starless es m []) rest x = record {
 ending ds n k (starless es m (q ∷ qs)) rest x = absurd x
 ending ds n k (grouped es m v) rest x = record {
   loose = refl;
-  goes = rw (x.0, x.1, x.2.0) refl;
+  goes = rw (x.0, x.1, x.2) refl;
   read = x.0;
   inside = refl;
+  free = either;
   letters = (λ h b. refl);
   angles = refl;
   hashes = refl;
@@ -370,11 +388,168 @@ ending ds n k (full es m v) rest x = record {
   goes = rw (x.0, x.1, x.2) refl;
   read = x.0;
   inside = refl;
+  free = either;
   letters = (λ h b. refl);
   angles = refl;
   hashes = refl;
 }
 
--- only '>' is taken there, and a suffix where none was looked for
-not_end : (b : ℕ) → (b == 62) ≡ false → (b == 62) ≡ true → {X : Type 0} → X
-not_end b no yes = absurd (false≢true (sym no ∙ yes))
+-- only '>' is taken there, behind white space, or a suffix where none was looked for
+other : (X : Type 0) (t : Bool) → t ≡ false → t ≡ true → X
+other X t is not = absurd (false≢true (sym is ∙ not))
+
+end_spaced : (ds : List Declaration) (n : List ℕ) (k : Content) (σ : Spot) (rest : List ℕ) (b : ℕ) → Closes ds n k σ rest → (b == 62) ≡ false → Unsigned true σ b
+end_spaced ds n k (outside es) rest b x e = absurd x
+end_spaced ds n k (opened es) rest b x e = absurd x
+end_spaced ds n k (titled es m) rest b x e = absurd x
+end_spaced ds n k (kids es m σ) rest b x e = absurd x
+end_spaced ds n k (mixed es m ns) rest b x e = absurd x
+end_spaced ds n k (wanted es m ns) rest b x e = absurd x
+end_spaced ds n k (starless es m []) rest b x e =
+    ((λ i. refl), (λ i. refl), (λ i. refl), (λ i. refl), (λ i. refl), (λ i. refl), (λ i. refl), other _ (b == 62) e)
+end_spaced ds n k (starless es m (q ∷ qs)) rest b x e = absurd x
+end_spaced ds n k (grouped es m v) rest b x e =
+    ((λ i. refl), (λ i. refl), (λ i. refl), (λ i. refl), (λ i. refl), (λ i. refl), (λ i. refl), other _ (b == 62) e)
+end_spaced ds n k (full es m v) rest b x e =
+    ((λ i. refl), (λ i. refl), (λ i. refl), (λ i. refl), (λ i. refl), (λ i. refl), (λ i. refl), other _ (b == 62) e)
+
+no_mark : (b : ℕ) → is_mark b ≡ false → ((b == 63) ≡ false) × ((b == 43) ≡ false) × ((b == 42) ≡ false)
+no_mark b e =
+    let (a, more) = or_parts (b == 63) (b == 43 || b == 42) e in
+    let (c, d) = or_parts (b == 43) (b == 42) more in
+    (a, c, d)
+
+end_alone : (ds : List Declaration) (n : List ℕ) (k : Content) (σ : Spot) (b : ℕ) (rest : List ℕ) → Closes ds n k σ (b ∷ rest) → (b == 62) ≡ false → Unsigned false σ b
+end_alone ds n k (outside es) b rest x e = absurd x
+end_alone ds n k (opened es) b rest x e = absurd x
+end_alone ds n k (titled es m) b rest x e = absurd x
+end_alone ds n k (kids es m σ) b rest x e = absurd x
+end_alone ds n k (mixed es m ns) b rest x e = absurd x
+end_alone ds n k (wanted es m ns) b rest x e = absurd x
+end_alone ds n k (starless es m []) b rest x e =
+    let (p, q, r) = no_mark b x.3 in
+    ((λ i. refl), (λ i. refl), (λ i. refl), (λ i. refl), other _ (b == 42) r, (λ i. refl), (λ i. refl), other _ (b == 62) e)
+end_alone ds n k (starless es m (q ∷ qs)) b rest x e = absurd x
+end_alone ds n k (grouped es m v) b rest x e =
+    let (p, q, r) = no_mark b x.3 in
+    ((λ i. refl), (λ i. refl), other _ (b == 63) p, other _ (b == 43) q, other _ (b == 42) r, (λ i. refl), (λ i. refl), other _ (b == 62) e)
+end_alone ds n k (full es m v) b rest x e =
+    ((λ i. refl), (λ i. refl), (λ i. refl), (λ i. refl), (λ i. refl), (λ i. refl), (λ i. refl), other _ (b == 62) e)
+
+end_refused : (ds : List Declaration) (n : List ℕ) (k : Content) (σ : Spot) (h : Bool) (rest : List ℕ) → Ending ds n k σ → Past is_blank rest → Past (λ b. b == 62) rest
+    → ((b : ℕ) (bs : List ℕ) → rest ≡ b ∷ bs → (b == 62) ≡ false → Unsigned h σ b) → Refuses σ h rest
+end_refused ds n k σ h [] may past none u = may.inside
+end_refused ds n k σ h (b ∷ bs) may past none u =
+    byte_refused σ h b past (λ e. may.letters h b) (λ e. may.angles) may.hashes (unsigned h σ b (u b bs refl none))
+
+end_behind : (ks : List (List ℕ)) (bytes : List ℕ) (ds : List Declaration) (n : List ℕ) (k : Content) (σ : Spot) (old new : Cursor) (t : Bool) → CursorAt ks bytes σ false old
+    → Closes ds n k σ (rest_of old) → BlanksRead old t new → CursorAt ks bytes σ (cond t true false) new
+end_behind ks bytes ds n k σ old new t r x blank = over_blanks ks bytes σ false t old new r (ending ds n k σ (rest_of old) x).loose blank
+
+pub end_misses : (ks : List (List ℕ)) (bytes : List ℕ) (ds : List Declaration) (n : List ℕ) (k : Content) (σ : Spot) (old new : Cursor) (t : Bool) → CursorAt ks bytes σ false old
+    → Closes ds n k σ (rest_of old) → BlanksRead old t new → Past (λ b. b == 62) (rest_of new) → Fails dtd ks bytes ds (placed NotDeclarations new.at)
+end_misses ks bytes ds n k σ old new t r x blank none =
+    subst (λ es. Fails dtd ks bytes es (placed NotDeclarations new.at)) may.read
+    (byte_fails ks bytes σ (cond t true false) (rest_of new) new (end_behind ks bytes ds n k σ old new t r x blank) refl
+    (end_refused ds n k σ (cond t true false) (rest_of new) may (blanks_past old new t blank) none (by t blank)))
+  where
+    may : Ending ds n k σ
+    may = ending ds n k σ (rest_of old) x
+
+    by : (t : Bool) → BlanksRead old t new → (b : ℕ) (bs : List ℕ) → rest_of new ≡ b ∷ bs → (b == 62) ≡ false → Unsigned (cond t true false) σ b
+    by true y b bs e = end_spaced ds n k σ (rest_of old) b x
+    by false y b bs e = end_alone ds n k σ b bs (subst (Closes ds n k σ) (sym (stayed_rest old new y.0) ∙ e) x)
+
+-- a byte at the front, or another
+pub front : (xs : List ℕ) (b : ℕ) → 1 ≤ length xs → get_or xs 0 0 ≡ b → xs ≡ b ∷ drop 1 xs
+front [] b some e = absurd (omega arith)
+front (x ∷ xs) b some e = ap (λ y. y ∷ xs) e
+
+pub past_nothing : (xs : List ℕ) (b : ℕ) → length xs < 1 → Past (λ x. x == b) xs
+past_nothing [] b none = tt
+past_nothing (x ∷ xs) b none = absurd (omega arith)
+
+pub past_other : (xs : List ℕ) (b : ℕ) → (get_or xs 0 0 ≡ b → ⊥) → Past (λ x. x == b) xs
+past_other [] b other = tt
+past_other (x ∷ xs) b other = by (x == b) refl
+  where
+    by : (t : Bool) → (x == b) ≡ t → (x == b) ≡ false
+    by true e = absurd (other (eqb-true x b e))
+    by false e = e
+
+-- the declaration's parts are too many
+pub end_fails : (ks : List (List ℕ)) (bytes : List ℕ) (ds : List Declaration) (n : List ℕ) (k : Content) (σ : Spot) (old new : Cursor) (t : Bool) (rest : List ℕ)
+    (js : List (List ℕ)) → CursorAt ks bytes σ false old → Closes ds n k σ (rest_of old) → BlanksRead old t new → rest ≡ rest_of new → 1 ≤ length rest → get_or rest 0 0 ≡ 62
+    → 256 < length (content_parts k js) → Fails dtd ks bytes ds (placed TooManyParts new.at)
+end_fails ks bytes ds n k σ old new t rest js r x blank same some is big =
+    subst (λ es. Fails dtd ks bytes es (placed TooManyParts new.at)) may.read
+    (sign_fails ks bytes σ (cond t true false) ends (outside (ds ++ (made n k ∷ []))) TooManyParts (drop 1 rest) new at (may.free (cond t true false)) may.goes tt
+    (sym same ∙ front rest 62 some is) tt (refl, ((λ never. never), beyond_parts)))
+  where
+    may : Ending ds n k σ
+    may = ending ds n k σ (rest_of old) x
+
+    at : CursorAt ks bytes σ (cond t true false) new
+    at = end_behind ks bytes ds n k σ old new t r x blank
+
+    beyond_parts : PartsBeyond (spelled σ ++ (ends ∷ []))
+    beyond_parts =
+        (ended_beyond ks bytes new.at σ (cond t true false) ds (made n k) at.at may.goes).0
+        (subst (λ i. 256 < i) (content_number js (known_after [] (all_names (made n k))) k) big)
+
+-- or it ends
+names_behind : (ss : List Sign) → names_among (ss ++ (ends ∷ [])) ≡ names_among ss
+names_behind [] = refl
+names_behind (declared n ∷ ss) = ap (λ ns. n ∷ ns) (names_behind ss)
+names_behind (inner (names n) ∷ ss) = ap (λ ns. n ∷ ns) (names_behind ss)
+names_behind (s ∷ ss) = names_behind ss
+
+begun_behind : (ss : List Sign) → begun dtd (ss ++ (ends ∷ [])) ≡ begun dtd ss
+begun_behind [] = refl
+begun_behind (element ∷ ss) = ap suc (begun_behind ss)
+begun_behind (s ∷ ss) = begun_behind ss
+
+declared_behind : (n : List ℕ) (ss : List Sign) → is_declared n (ss ++ (ends ∷ [])) ≡ is_declared n ss
+declared_behind n [] = refl
+declared_behind n (declared m ∷ ss) = ap (λ t. cond (bytes_eq m n) true t) (declared_behind n ss)
+declared_behind n (s ∷ ss) = declared_behind n ss
+
+pub elements_end : (ks : List (List ℕ)) (ss : List Sign) (e : Elements) → ElementsAre dtd ks ss e → ElementsAre dtd ks (ss ++ (ends ∷ [])) e
+elements_end ks ss e r = record {
+  names = r.names ∙ ap (known_after ks) (sym (names_behind ss));
+  begun = r.begun ∙ sym (begun_behind ss);
+  declared = (
+    (λ n known. (
+      (λ is. (r.declared.0 n known).0 (sym (declared_behind n ss) ∙ is)),
+      (λ has. declared_behind n ss ∙ (r.declared.0 n known).1 has),
+    )),
+    r.declared.1,
+  );
+}
+
+pub end_reads : (ks : List (List ℕ)) (bytes : List ℕ) (ds : List Declaration) (n : List ℕ) (k : Content) (σ : Spot) (old mid new : Cursor) (t : Bool) (rest : List ℕ) (e : Elements)
+    (js : List (List ℕ)) → ReadTo ks bytes σ false old e → Closes ds n k σ (rest_of old) → BlanksRead old t mid → rest ≡ rest_of mid → 1 ≤ length rest → get_or rest 0 0 ≡ 62
+    → Moved mid (take 1 (rest_of mid)) new → length (content_parts k js) ≤ 256
+    → ReadTo ks bytes (outside (ds ++ (made n k ∷ []))) false new e × ((ns : List (List ℕ)) → length (content_parts k ns) ≤ 256)
+end_reads ks bytes ds n k σ old mid new t rest e js r x blank same some is moved few = (
+  record {
+    cursor =
+        over_sign ks bytes σ (cond t true false) ends (outside (ds ++ (made n k ∷ []))) mid new at (may.free (cond t true false)) may.goes tt
+        (subst (λ g. Moved mid g new) (ap (take 1) (sym same ∙ front rest 62 some is)) moved) tt ((λ never. never), not_beyond);
+    elements =
+        subst (λ ss. ElementsAre dtd ks ss e)
+        (sym (spelled_on ks bytes old.at σ false ends (outside (ds ++ (made n k ∷ []))) r.cursor.at may.goes)) (elements_end ks (spelled σ) e r.elements);
+  },
+  (λ ns. subst (λ i. i ≤ 256) (content_number js ns k) few),
+)
+  where
+    may : Ending ds n k σ
+    may = ending ds n k σ (rest_of old) x
+
+    at : CursorAt ks bytes σ (cond t true false) mid
+    at = end_behind ks bytes ds n k σ old mid t r.cursor x blank
+
+    not_beyond : PartsBeyond (spelled σ ++ (ends ∷ [])) → ⊥
+    not_beyond =
+        (ended_beyond ks bytes mid.at σ (cond t true false) ds (made n k) at.at may.goes).1
+        (subst (λ i. i ≤ 256) (content_number js (known_after [] (all_names (made n k))) k) few)

@@ -19,7 +19,7 @@ pub returns-in-Ok-clause-titled : goal.returns-in-Ok-clause-titled
 returns-in-Ok-clause-titled c ks bytes ds r =
     let (moved, name, whole) = c.in-Some.ensures in (
       title_read ks bytes ds c.in-Some.name.now c.args.cursor.now c.skip_blanks.new.self c.name.new.self c.declare.new.self c.in-Ok.symbol r.cursor
-      c.skip_blanks.ensures c.if-not-skip_blanks.false moved name whole (c.in-Ok.ensures.taken ks _ r.elements),
+          c.skip_blanks.ensures c.if-not-skip_blanks.false moved name whole (c.in-Ok.ensures.taken ks _ r.elements),
       c.in-Ok.ensures.symbol,
     )
 
