@@ -1,5 +1,5 @@
 -- How a declaration begins and ends: over the gap before it, its word and its name, and over its '>'. Assumes nothing.
-use Rattle.std.proofs.Common.{◌≡◌, ℕ, suc, ◌+◌, ◌-◌, ◌<◌, ◌≤◌, ◌⊎◌, inl, inr, Bool, true, false, cond, ◌==◌, ◌||◌, List, [], ◌∷◌, ◌++◌, length, get_or, take, drop, map, Some, None, Option, sym, refl, ap, ◌∙◌, subst, arith, length-append}
+use Rattle.std.proofs.Common.{◌≡◌, ℕ, suc, ◌+◌, ◌-◌, ◌<◌, ◌≤◌, inl, inr, Bool, true, false, cond, ◌==◌, ◌||◌, List, [], ◌∷◌, ◌++◌, length, get_or, take, drop, Some, None, Option, sym, refl, ap, ◌∙◌, subst, arith, length-append}
 use Rattle.std.specs.Prelude.{codes, Ok, Err}
 use Rattle.std.specs.Borrow.{Bor}
 use Rattle.std.specs.Option.{is_some}
@@ -7,7 +7,6 @@ use Rattle.std.proofs.lemmas.List.{length-map, nil_from_length}
 use Rattle.std.proofs.lemmas.Bool.{eqb-true, false≢true, or_parts}
 use Rattle.std.proofs.lemmas.Bool.Decides.{nat_tests}
 use Rattle.parts.specs.declared.part.Part.{Part}
-use Rattle.models.specs.Trees.{Tree}
 use Rattle.models.specs.Written.{subtrees, part_of, sheet}
 use Rattle.grammar.specs.Bytes.{is_blank, begins_name, IsName, NameEnds, Bit, AreBits, bits, comment}
 use Rattle.grammar.specs.Notations.Notation.{dtd}
@@ -16,23 +15,23 @@ use Rattle.grammar.specs.Words.Words.{name, nothing, group, marked, joined}
 use Rattle.grammar.specs.Words.Join.{alt, next, both}
 use Rattle.grammar.specs.Words.Mark.{optional, repeated, any}
 use Rattle.grammar.specs.Words.Sign.{names, opens, closes, suffix, separator}
-use Rattle.grammar.specs.Declarations.{Content, Declaration, Sign, sign_bytes, words, all_names}
-use Rattle.grammar.specs.Declarations.Content.{text, children}
+use Rattle.grammar.specs.Declarations.{Content, Declaration, Sign, words, all_names}
+use Rattle.grammar.specs.Declarations.Content.{text}
 use Rattle.grammar.specs.Declarations.Sign.{element, declared, inner, ends}
 use Rattle.std.specs.Str.{bytes_eq}
 use Rattle.names.specs.Numbering.{known_after}
 use Rattle.grammar.specs.Meaning.{tree_of}
-use Rattle.grammar.specs.Faults.{Gives, PartsBeyond, parts_of, Faultless, names_among, begun, is_declared}
+use Rattle.grammar.specs.Faults.{Gives, PartsBeyond, names_among, begun, is_declared}
 use Rattle.grammar.specs.Faults.Cause.{kind}
-use Rattle.grammar.specs.Machine.{Spot, made, go, spelled, tight, refused, into, signed, sign_at, lettered, angled, hashed, feed_at, is_outside, spot_read}
+use Rattle.grammar.specs.Machine.{Spot, made, go, spelled, tight, refused, signed, sign_at, lettered, angled, hashed, feed_at, is_outside, spot_read}
 use Rattle.grammar.specs.Machine.Spot.{outside, opened, titled, kids, mixed, wanted, starless, grouped, full}
 use Rattle.grammar.specs.Machine.Fixed.{the_element}
 use Rattle.grammar.specs.Progress.{StandsAt, NotNext, NoCharNext}
 use Rattle.grammar.proofs.Steps.{passes_comment, stops_before_comment, stops_in_comment, ends_whole, spelled_on, ended_beyond}
 use Rattle.text.specs.Contents.{AllOf}
-use Rattle.text.specs.Cursors.{rest_of, Moved, Stayed, BlanksRead, NameRead, WordRead, CommentRead}
+use Rattle.text.specs.Cursors.{rest_of, Moved, Stayed, BlanksRead, NameRead, CommentRead}
 use Rattle.text.specs.Declaring.{ReadTo, WordTaken, GapPast, GapRead, content_parts, Closes}
-use Rattle.text.specs.Fronts.{Past, Differs, Inside, Breaks, IsDashes, is_mark}
+use Rattle.text.specs.Fronts.{Past, Differs, Breaks, IsDashes, is_mark}
 use Rattle.text.specs.Progress.{ElementsAre, TakenIn, AtFaultBy, CursorAt, Fails}
 use Rattle.text.specs.declared.cursor.Cursor.{Cursor}
 use Rattle.text.specs.declared.elements.Elements.{Elements}
@@ -203,6 +202,10 @@ outside_refused ds h b blank other =
     byte_refused (outside ds) h b blank (λ e. refl) (λ e. absurd (false≢true (sym other ∙ e))) refl
     (unsigned h (outside ds) b (outside_unsigned ds h b))
 
+may_begin : (ds : List Declaration) (h : Bool) → refused h (outside ds) element ≡ false
+may_begin ds true = refl
+may_begin ds false = refl
+
 -- the text ends
 pub begin_none : (ks : List (List ℕ)) (bytes : List ℕ) (ds : List Declaration) (c : Cursor) (e : Elements) (rest : List ℕ) {t : Bool} → GapRead ks bytes ds (Ok tt) c
     → ElementsAre dtd ks (spelled (outside ds)) e → rest ≡ rest_of c → t ≡ (length rest == 0) → t ≡ true
@@ -223,13 +226,9 @@ begin_stops ks bytes ds h c [] left (b ∷ rest) r past some w e d =
     (byte_fails ks bytes (outside ds) h (b ∷ rest) c r e
     (outside_refused ds h b (subst (Past is_blank) e past.0) (subst (λ ws. Differs ws (b ∷ rest)) (sym w) d)))
 begin_stops ks bytes ds h c (x ∷ done) left rest r past some w e d =
-    word_fails ks bytes (outside ds) h (the_element ds) (x ∷ done) left rest c r refl (free h) w (omega arith) e d
+    word_fails ks bytes (outside ds) h (the_element ds) (x ∷ done) left rest c r refl (may_begin ds h) w (omega arith) e d
     (λ two. no_dash rest (λ more bar. past.1 more (e ∙ ap (λ ws. ws ++ rest) two ∙ ap (λ ws. 60 ∷ 33 ∷ ws) bar)))
   where
-    free : (h : Bool) → refused h (outside ds) element ≡ false
-    free true = refl
-    free false = refl
-
     no_dash : (rest : List ℕ) → ((more : List ℕ) → rest ≡ 45 ∷ more → ⊥) → NotNext 45 rest
     no_dash [] never = tt
     no_dash (b ∷ rest) never = by (b == 45) refl
@@ -248,10 +247,6 @@ begin_misses ks bytes ds old new rest f ((h, r), past) same is some (cause, (s, 
     more n x = grind (arith, nat_tests)
 
 -- or one does
-may_begin : (ds : List Declaration) (h : Bool) → refused h (outside ds) element ≡ false
-may_begin ds true = refl
-may_begin ds false = refl
-
 pub begin_reads : (ks : List (List ℕ)) (bytes : List ℕ) (ds : List Declaration) (old new : Cursor) (f : Elements) (u : Unit {0}) → GapRead ks bytes ds (Ok tt) old
     → Moved old (codes "<!ELEMENT") new → TakenIn dtd ks (spelled (outside ds)) element (Ok u) f → ReadTo ks bytes (opened ds) false new f
 begin_reads ks bytes ds old new f u ((h, r), past) m (one, taken) = record {

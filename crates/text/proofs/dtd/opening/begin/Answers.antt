@@ -1,8 +1,6 @@
-use Rattle.std.proofs.Common.{subst, sym, ap, ◌∙◌}
-use Rattle.std.specs.Prelude.{Err}
+use Rattle.std.proofs.Common.{subst, sym}
 use Rattle.std.proofs.lemmas.Result.{err_from_is_err_and}
 use Rattle.grammar.specs.Notations.Notation.{dtd}
-use Rattle.text.specs.Declaring.{Begun}
 use Rattle.text.specs.Progress.{Fails}
 use Rattle.text.proofs.Opening.{begin_none, begin_misses, begin_reads, begin_fails}
 use Rattle.text.proofs.dtd.opening.begin.Goals as goal

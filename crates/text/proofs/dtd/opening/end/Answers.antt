@@ -1,7 +1,6 @@
 use Rattle.std.proofs.Common.{◌==◌, [], subst, sym, arith, rules}
 use Rattle.grammar.specs.Notations.Notation.{dtd}
 use Rattle.text.specs.Declaring.{content_parts}
-use Rattle.text.specs.Cursors.{rest_of}
 use Rattle.text.specs.Fronts.{Past}
 use Rattle.text.specs.Progress.{Fails}
 use Rattle.text.proofs.Opening.{past_nothing, past_other, end_misses, end_fails, end_reads, too_many, not_too_many}
