@@ -9,3 +9,4 @@ pub mod Naming
 pub mod Reading
 pub mod ContentLemmas
 pub mod ElementLemmas
+pub mod Opening
