@@ -11,15 +11,15 @@ use Rattle.text.specs.declared.elements.Elements.{Elements}
 use Rattle.text.specs.declared.fault.TextFault.{TextFault}
 
 -- it stands behind the declarations given; or the text's first fault was come to, and the names are those of the declarations given
-abbrev pub StandsWith : Notation → List (List ℕ) → List Declaration → Cursor → Elements → ℕ → ℕ → Option TextFault → Type 0
-StandsWith ν ks ds c e texts given None = Between ν ks c.text.now ds c e
-StandsWith ν ks ds c e texts given (Some f) =
-    Fails ν ks c.text.now ds (record { cause = f.cause; place = f.place }) × (f.texts ≡ texts) × (f.declarations ≡ given)
+abbrev pub StandsWith : Notation → List (List ℕ) → List ℕ → List Declaration → Cursor → Elements → ℕ → ℕ → Option TextFault → Type 0
+StandsWith ν ks bytes ds c e texts given None = Between ν ks bytes ds c e
+StandsWith ν ks bytes ds c e texts given (Some f) =
+    Fails ν ks bytes ds (record { cause = f.cause; place = f.place }) × (f.texts ≡ texts) × (f.declarations ≡ given)
     × (e.names ≡ known_after ks (names_of ds))
 
-pub record Standing (ν : Notation) (c : Cursor) (e : Elements) (known texts given : ℕ) (fault : Option TextFault) : Type 0 where
+pub record Standing (ν : Notation) (bytes : List ℕ) (c : Cursor) (e : Elements) (known texts given : ℕ) (fault : Option TextFault) : Type 0 where
   pub names : known ≤ length e.names
   pub ds : List Declaration
   pub count : length ds ≡ given
-  pub first : GivesFirst ν (take known e.names) c.text.now ds
-  pub stands : StandsWith ν (take known e.names) ds c e texts given fault
+  pub first : GivesFirst ν (take known e.names) bytes ds
+  pub stands : StandsWith ν (take known e.names) bytes ds c e texts given fault

@@ -16,6 +16,7 @@ mod calls;
 #[derive(Drop)]
 pub struct Reader<'t, N: Notation> {
     notation: N,
+    text: &'t [u8],
     cursor: Cursor<'t>,
     elements: Elements,
     /// how many names were known before
@@ -35,7 +36,7 @@ impl<'t, N: Notation> Model for Reader<'t, N> {
 
     ghost Value = { Reading };
 
-    ghost view = { λ r. record { notation = N.which; known = take r.known r.elements.names; texts = r.texts; text = r.cursor.text.now; given = r.given } };
+    ghost view = { λ r. record { notation = N.which; known = take r.known r.elements.names; texts = r.texts; text = r.text.now; given = r.given } };
 
-    ghost invariant = { λ r. Standing N.which r.cursor r.elements r.known r.texts r.given r.fault };
+    ghost invariant = { λ r. Standing N.which r.text.now r.cursor r.elements r.known r.texts r.given r.fault };
 }

@@ -26,6 +26,7 @@ impl<'t, N: Notation + Drop> Reader<'t, N> {
         let known = names.len();
         Reader {
             notation,
+            text,
             cursor: Cursor::new(text),
             elements: Elements::new(names),
             known,

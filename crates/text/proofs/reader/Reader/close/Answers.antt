@@ -2,4 +2,4 @@ use Rattle.text.proofs.Reading.{names_told}
 use Rattle.text.proofs.reader.Reader.close.Goals as goal
 
 pub returns-clause-names : goal.returns-clause-names
-returns-clause-names g c = names_told _ _ _ _ _ _ _ c.self.invariant g.met.N.Notation.one _ c.self.view_is
+returns-clause-names g c = names_told _ _ _ _ _ _ _ _ c.self.invariant g.met.N.Notation.one _ c.self.view_is
