@@ -17,7 +17,7 @@ impl NamedSymbol<'_> {
     // The name, if the symbol has one that is text.
     fn text(&self) -> Option<&str>
         ensures { let said = symbol_said self.now.names.now self.now.symbol in
-        MatchOption result (said ≡ decimal self.now.symbol) (λ text. said ≡ text.now) }
+            MatchOption result (said ≡ decimal self.now.symbol) (λ text. said ≡ text.now) }
     {
         match self.names.name(self.symbol) {
             Some(name) => str::from_utf8(name).ok(),

@@ -1,4 +1,4 @@
-use Rattle.std.proofs.Common.{ℕ, List, [], ◌∷◌, ◌++◌, append_assoc, is_ok, codes, sym, refl, ap, ◌∙◌, rules}
+use Rattle.std.proofs.Common.{ℕ, List, [], ◌∷◌, ◌++◌, append_assoc, is_ok, sym, refl, ap, ◌∙◌, rules}
 use Rattle.std.proofs.Output.{writes_in_calls_nil, has_written_append, has_written_of_eq}
 use Rattle.std.specs.List.{join_by}
 use Rattle.parts.proofs.Joining.{joined_more, gap_more}
