@@ -1,9 +1,45 @@
-//! One element declaration of a DTD (docs/TEXTS.md).
+//! Element declarations of a DTD (docs/TEXTS.md).
 
-ghost use Rattle.std.specs.Prelude.{List, ℕ};
+ghost use Rattle.std.specs.Prelude.{◌≡◌, [], List, ℕ};
+ghost use Rattle.grammar.specs.Notations.Notation.{dtd};
+ghost use Rattle.grammar.specs.Declarations.{Declaration};
+ghost use Rattle.grammar.proofs.Faults.{gives_one};
+ghost use Rattle.text.specs.Contents.{made_of};
+ghost use Rattle.text.specs.Declaring.{DeclarationRead};
+ghost use Rattle.text.specs.Progress.{NamesGrow};
+ghost use Rattle.text.proofs.Whole.{gives_some};
+
+use crate::content::Content;
+use crate::cursor::Cursor;
+use crate::element::Element;
+use crate::elements::Elements;
+use crate::fault::PlacedCause;
+use crate::notation::Notation;
 
 mod children;
 mod content;
 mod mixed;
 mod opening;
 mod steps;
+
+/// The notation of a DTD.
+#[derive(Clone, Copy)]
+pub struct Dtd;
+
+// Reads the next declaration, if the text has one.
+fn declaration<'t>(
+    cursor: &mut Cursor<'t>,
+    elements: &mut Elements,
+    made: &mut Content,
+) -> Result<Option<Element<'t>>, PlacedCause>
+    ensures read { (ks : List (List ℕ)) (bytes : List ℕ) (ds : List Declaration) (h : Bool) → ReadTo ks bytes (outside ds) h cursor.old elements.old → made.old ≡ made_of [] → DeclarationRead ks bytes ds result cursor.new elements.new made.new }
+    ensures grow { NamesGrow elements.old elements.new }
+{
+    if !opening::begin(cursor, elements)? {
+        return Ok(None);
+    }
+    let element = opening::title(cursor, elements)?;
+    content::content(cursor, elements, made)?;
+    opening::end(cursor, made)?;
+    Ok(Some(element))
+}
