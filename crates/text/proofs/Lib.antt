@@ -5,3 +5,6 @@ pub mod CursorLemmas
 pub mod Comments
 pub mod Walking
 pub mod Children
+pub mod Quiet
+pub mod Fronted
+pub mod Groups

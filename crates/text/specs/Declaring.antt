@@ -36,6 +36,16 @@ pub record ReadTo (ks : List (List ℕ)) (bytes : List ℕ) (σ : Spot) (h : Boo
   pub cursor : CursorAt ks bytes σ h c
   pub elements : ElementsAre dtd ks (spelled σ) e
 
+-- the cursor has not gone back in its text
+abbrev pub Onward : Cursor → Cursor → Type 0
+Onward old new = (new.text.now ≡ old.text.now) × (old.at ≤ new.at)
+
+-- and it has gone on where the answer is true
+abbrev pub Further : Result Bool PlacedCause → Cursor → Cursor → Type 0
+Further (Ok true) old new = (new.text.now ≡ old.text.now) × (old.at < new.at)
+Further (Ok false) old new = Onward old new
+Further (Err f) old new = Unit {0}
+
 -- a word has been read; or the text differs from it at a place
 abbrev pub WordTaken : Cursor → List ℕ → Result (Unit {0}) PlacedCause → Cursor → Type 0
 WordTaken old word (Ok u) new = WordRead old word (Ok u) new

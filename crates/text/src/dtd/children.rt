@@ -9,7 +9,7 @@ ghost use Rattle.grammar.specs.Machine.Spot.{kids};
 ghost use Rattle.grammar.specs.Words.{Words, is_plain, is_member};
 ghost use Rattle.text.specs.Contents.{made_of};
 ghost use Rattle.text.specs.Cursors.{rest_of};
-ghost use Rattle.text.specs.Declaring.{ReadTo, PartsFor, state_parts, Ended, GroupsAre, left_join, GroupOpened, GoneOn, SuffixPast};
+ghost use Rattle.text.specs.Declaring.{ReadTo, PartsFor, state_parts, Ended, GroupsAre, left_join, GroupOpened, GoneOn, SuffixPast, Further};
 ghost use Rattle.text.specs.Fronts.{Past, is_mark};
 ghost use Rattle.text.specs.Progress.{NamesGrow};
 ghost use Rattle.text.specs.declared.elements.Elements.{Elements};
@@ -27,15 +27,18 @@ pub const MOST_GROUPS: usize = 16;
 
 // Reads the `(` of a group within another, and says whether one stands here.
 fn opens(cursor: &mut Cursor<'_>, groups: &mut Stack<'_, Option<Join>>) -> Result<bool, PlacedCause>
-    ensures { (ks : List (List ℕ)) (bytes : List ℕ) (ds : List Declaration) (n : List ℕ) (o : List Left) (l : Left) (h : Bool) (e : Elements) → ReadTo ks bytes (kids ds n (want o l)) h cursor.old e → GroupsAre (l ∷ o) groups.old → GroupOpened ks bytes ds n o l h result cursor.new e groups.new }
+    ensures opened { (ks : List (List ℕ)) (bytes : List ℕ) (ds : List Declaration) (n : List ℕ) (o : List Left) (l : Left) (h : Bool) (e : Elements) → ReadTo ks bytes (kids ds n (want o l)) h cursor.old e → GroupsAre (l ∷ o) groups.old → GroupOpened ks bytes ds n o l h result cursor.new e groups.new }
+    ensures further { Further result cursor.old cursor.new }
 {
     let [b'(', ..] = cursor.rest() else {
         return Ok(false);
     };
-    if groups.push(None).is_err() {
+    if groups.len() >= MOST_GROUPS {
         return Err(TextCause::TooDeep.at(cursor.at));
     }
     cursor.advance(1);
+    // there is room
+    let _ = groups.push(None);
     Ok(true)
 }
 
@@ -46,7 +49,8 @@ fn separated(
     groups: &mut Stack<'_, Option<Join>>,
     before: Option<Join>,
 ) -> Result<bool, PlacedCause>
-    ensures { (ks : List (List ℕ)) (bytes : List ℕ) (ds : List Declaration) (n : List ℕ) (o : List Left) (l : Left) (w : Words) (h : Bool) (e : Elements) → ReadTo ks bytes (kids ds n (got o l w)) h cursor.old e → Past is_blank (rest_of cursor.old) → Past (λ b. b == 41) (rest_of cursor.old) → SuffixPast h (rest_of cursor.old) → is_member w ≡ true → before ≡ left_join l → GroupsAre o groups.old → length o < 16 → PartsFor (state_parts (got o l w)) e made.old → GoneOn ks bytes ds n result cursor.new e made.new groups.new }
+    ensures read { (ks : List (List ℕ)) (bytes : List ℕ) (ds : List Declaration) (n : List ℕ) (o : List Left) (l : Left) (w : Words) (h : Bool) (e : Elements) → ReadTo ks bytes (kids ds n (got o l w)) h cursor.old e → Past is_blank (rest_of cursor.old) → Past (λ b. b == 41) (rest_of cursor.old) → (is_plain w ≡ true → SuffixPast h (rest_of cursor.old)) → is_member w ≡ true → before ≡ left_join l → GroupsAre o groups.old → length o < 16 → PartsFor (state_parts (got o l w)) e made.old → GoneOn ks bytes ds n result cursor.new e made.new groups.new }
+    ensures further { Further result cursor.old cursor.new }
 {
     let join = match cursor.rest() {
         [b'|', ..] => Join::Choice,
@@ -72,7 +76,8 @@ fn goes_on(
     made: &mut Content,
     groups: &mut Stack<'_, Option<Join>>,
 ) -> Result<bool, PlacedCause>
-    ensures { (ks : List (List ℕ)) (bytes : List ℕ) (ds : List Declaration) (n : List ℕ) (o : List Left) (l : Left) (w : Words) (e : Elements) → ReadTo ks bytes (kids ds n (got o l w)) false cursor.old e → is_plain w ≡ true → GroupsAre (l ∷ o) groups.old → PartsFor (state_parts (got o l w)) e made.old → GoneOn ks bytes ds n result cursor.new e made.new groups.new }
+    ensures read { (ks : List (List ℕ)) (bytes : List ℕ) (ds : List Declaration) (n : List ℕ) (o : List Left) (l : Left) (w : Words) (e : Elements) → ReadTo ks bytes (kids ds n (got o l w)) false cursor.old e → is_plain w ≡ true → GroupsAre (l ∷ o) groups.old → PartsFor (state_parts (got o l w)) e made.old → GoneOn ks bytes ds n result cursor.new e made.new groups.new }
+    ensures further { Further result cursor.old cursor.new }
 {
     loop {
         if let Some(mark) = cursor.mark() {
