@@ -1,5 +1,6 @@
 -- A byte at the front of what is left of a text. Assumes nothing.
-use Rattle.std.proofs.Common.{◌≡◌, ℕ, ◌≤◌, List, [], ◌∷◌, ◌++◌, length, get_or, take, drop, sym, refl, ap, ◌∙◌, subst, arith}
+use Rattle.std.proofs.Common.{◌≡◌, ℕ, ◌+◌, ◌<◌, ◌≤◌, List, [], ◌∷◌, ◌++◌, length, get_or, take, drop, sym, refl, ap, ◌∙◌, subst, arith}
+use Rattle.std.proofs.lemmas.List.{length-take-le}
 use Rattle.text.specs.Cursors.{rest_of, Moved}
 use Rattle.text.specs.declared.cursor.Cursor.{Cursor}
 
@@ -14,3 +15,6 @@ front_is c rest b same some is = begins_with (rest_of c) b (subst (λ xs. 1 ≤ 
 pub one_read : (old new : Cursor) (rest : List ℕ) (b : ℕ) → rest ≡ rest_of old → 1 ≤ length rest → get_or rest 0 0 ≡ b → Moved old (take 1 (rest_of old)) new
     → Moved old (b ∷ []) new
 one_read old new rest b same some is m = subst (λ g. Moved old g new) (ap (take 1) (front_is old rest b same some is)) m
+
+pub one_further : (old new : Cursor) → 1 ≤ length (rest_of old) → Moved old (take 1 (rest_of old)) new → (new.text.now ≡ old.text.now) × (old.at < new.at)
+one_further old new some m = (m.same, omega (arith, m.at, length-take-le 1 (rest_of old) some))

@@ -8,3 +8,5 @@ pub mod Children
 pub mod Quiet
 pub mod Fronted
 pub mod Groups
+pub mod Made
+pub mod Members

@@ -19,8 +19,8 @@ use Rattle.grammar.specs.Machine.{Spot, spelled, Named, name_before, name_after,
 use Rattle.grammar.specs.Machine.Spot.{outside, opened, titled, kids, mixed, wanted, starless, grouped, full}
 use Rattle.grammar.specs.Machine.Named.{title, kid, mate}
 use Rattle.parts.specs.Stacks.{Kept}
-use Rattle.text.specs.Contents.{Made, made_of}
-use Rattle.text.specs.Cursors.{rest_of, WordRead}
+use Rattle.text.specs.Contents.{Made, made_of, MakesMore, join_part, mark_parts}
+use Rattle.text.specs.Cursors.{rest_of, WordRead, MarkRead}
 use Rattle.text.specs.Fronts.{Past, is_mark}
 use Rattle.text.specs.Progress.{ElementsAre, SymbolIs, CursorAt, Fails}
 use Rattle.text.specs.declared.cursor.Cursor.{Cursor}
@@ -28,6 +28,7 @@ use Rattle.text.specs.declared.elements.Elements.{Elements}
 use Rattle.text.specs.declared.element.Element.{Element}
 use Rattle.text.specs.declared.fault.PlacedCause.{PlacedCause}
 use Rattle.text.specs.declared.fault.TextCause.TheVariants.{NotDeclarations}
+use Rattle.text.specs.declared.mark.Mark.{Mark}
 use Rattle.text.specs.declared.join.Join.{Join}
 use Rattle.text.specs.declared.join.Join.TheVariants as join
 
@@ -147,6 +148,36 @@ left_join (Some (a, j)) = Some (join_of j)
 -- the open groups, the innermost first
 abbrev pub GroupsAre : List Left → Kept (Option Join) → Type 0
 GroupsAre ls s = (s.waiting ≡ map left_join ls) × (length s.lent ≡ 16)
+
+-- a suffix has been read and its parts made, or none stands there
+abbrev pub MarkMade : Cursor → Made → Cursor → Made → Type 0
+MarkMade old before new made = (m : Option Mark) × MarkRead old m new × MarkParts m before made
+  where
+    MarkParts : Option Mark → Made → Made → Type 0
+    MarkParts None before made = made ≡ before
+    MarkParts (Some m) before made = MakesMore before (mark_parts m) made
+
+-- the part that joins a member to those before it is made, where there are some
+abbrev pub JoinMade : Made → Option Join → Made → Type 0
+JoinMade old None new = new ≡ old
+JoinMade old (Some j) new = MakesMore old (join_part j ∷ []) new
+
+-- 124 '|', 44 ','
+abbrev pub SeparatorIs : List ℕ → Option Join → Type 0
+SeparatorIs bytes None = Past (λ b. b == 124) bytes × Past (λ b. b == 44) bytes
+SeparatorIs bytes (Some join.Choice) = (rest : List ℕ) × (bytes ≡ 124 ∷ rest)
+SeparatorIs bytes (Some join.Sequence) = (rest : List ℕ) × (bytes ≡ 44 ∷ rest)
+SeparatorIs bytes (Some join.Interleave) = ⊥
+
+-- the members of a list are joined alike
+abbrev pub join_rank : Join → ℕ
+join_rank join.Choice = 2
+join_rank join.Sequence = 3
+join_rank join.Interleave = 4
+
+abbrev pub may_join : Option Join → Join → Bool
+may_join None j = true
+may_join (Some i) j = join_rank i == join_rank j
 
 -- a `(` has been read, or none stands there
 abbrev pub GroupOpened : List (List ℕ) → List ℕ → List Declaration → List ℕ → List Left → Left → Bool → Result Bool PlacedCause → Cursor → Elements → Kept (Option Join) → Type 0

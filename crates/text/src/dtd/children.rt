@@ -9,7 +9,7 @@ ghost use Rattle.grammar.specs.Machine.Spot.{kids};
 ghost use Rattle.grammar.specs.Words.{Words, is_plain, is_member};
 ghost use Rattle.text.specs.Contents.{made_of};
 ghost use Rattle.text.specs.Cursors.{rest_of};
-ghost use Rattle.text.specs.Declaring.{ReadTo, PartsFor, state_parts, Ended, GroupsAre, left_join, GroupOpened, GoneOn, SuffixPast, Further};
+ghost use Rattle.text.specs.Declaring.{ReadTo, PartsFor, state_parts, Ended, GroupsAre, left_join, GroupOpened, GoneOn, SuffixPast, Further, SeparatorIs, may_join, JoinMade, MarkMade};
 ghost use Rattle.text.specs.Fronts.{Past, is_mark};
 ghost use Rattle.text.specs.Progress.{NamesGrow};
 ghost use Rattle.text.specs.declared.elements.Elements.{Elements};
@@ -42,6 +42,45 @@ fn opens(cursor: &mut Cursor<'_>, groups: &mut Stack<'_, Option<Join>>) -> Resul
     Ok(true)
 }
 
+// What separates two members, where it is next.
+fn separator(text: &[u8]) -> Option<Join>
+    ensures { SeparatorIs text.now result }
+{
+    match text {
+        [b'|', ..] => Some(Join::Choice),
+        [b',', ..] => Some(Join::Sequence),
+        _ => None,
+    }
+}
+
+// Whether a list may go on with this join.
+fn may_go_on(before: Option<Join>, join: Join) -> bool
+    ensures { result ≡ may_join before join }
+{
+    match before {
+        Some(other) => other == join,
+        None => true,
+    }
+}
+
+// Makes the join of what stands before a member with it.
+fn joined(made: &mut Content, before: Option<Join>)
+    ensures { JoinMade made.old before made.new }
+{
+    if let Some(join) = before {
+        made.join(join);
+    }
+}
+
+// Reads a suffix, where one is next.
+fn suffixed(cursor: &mut Cursor<'_>, made: &mut Content)
+    ensures { MarkMade cursor.old made.old cursor.new made.new }
+{
+    if let Some(mark) = cursor.mark() {
+        made.mark(mark);
+    }
+}
+
 // Reads what separates two members, which is the same throughout a group.
 fn separated(
     cursor: &mut Cursor<'_>,
@@ -52,16 +91,13 @@ fn separated(
     ensures read { (ks : List (List ℕ)) (bytes : List ℕ) (ds : List Declaration) (n : List ℕ) (o : List Left) (l : Left) (w : Words) (h : Bool) (e : Elements) → ReadTo ks bytes (kids ds n (got o l w)) h cursor.old e → Past is_blank (rest_of cursor.old) → Past (λ b. b == 41) (rest_of cursor.old) → (is_plain w ≡ true → SuffixPast h (rest_of cursor.old)) → is_member w ≡ true → before ≡ left_join l → GroupsAre o groups.old → length o < 16 → PartsFor (state_parts (got o l w)) e made.old → GoneOn ks bytes ds n result cursor.new e made.new groups.new }
     ensures further { Further result cursor.old cursor.new }
 {
-    let join = match cursor.rest() {
-        [b'|', ..] => Join::Choice,
-        [b',', ..] => Join::Sequence,
-        _ => return Err(misplaced(cursor)),
+    let Some(join) = separator(cursor.rest()) else {
+        return Err(misplaced(cursor));
     };
-    match before {
-        Some(other) if other != join => return Err(misplaced(cursor)),
-        Some(_) => made.join(join),
-        None => {}
+    if !may_go_on(before, join) {
+        return Err(misplaced(cursor));
     }
+    joined(made, before);
     cursor.advance(1);
     // there is room, since one was taken away
     let _ = groups.push(Some(join));
@@ -80,9 +116,7 @@ fn goes_on(
     ensures further { Further result cursor.old cursor.new }
 {
     loop {
-        if let Some(mark) = cursor.mark() {
-            made.mark(mark);
-        }
+        suffixed(cursor, made);
         let Some(before) = groups.pop() else {
             return Ok(false);
         };
@@ -91,9 +125,7 @@ fn goes_on(
             return separated(cursor, made, groups, before);
         };
         cursor.advance(1);
-        if let Some(join) = before {
-            made.join(join);
-        }
+        joined(made, before);
     }
 }
 
