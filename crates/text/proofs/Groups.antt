@@ -111,7 +111,7 @@ groups_open ds n o l =
 pub group_pushed : (l : Left) (o : List Left) (s t : Kept (Option Join)) (pushed : Result (Unit {0}) (Option Join)) → GroupsAre o s → length o < 16
     → Pushed s (left_join l) pushed t → GroupsAre (l ∷ o) t
 group_pushed l o s t (Ok u) g room push =
-    (push.0 ∙ ap (λ xs. left_join l ∷ xs) g.0, ap length push.1 ∙ length-set s.lent (depth s) (left_join l) ∙ g.1)
+    (push.0 ∙ ap (λ xs. left_join l ∷ xs) g.0, ap length push.1 ∙ length-set s.lent (depth s) (left_join l) ∙ g.1, omega arith)
 group_pushed l o s t (Err other) g room push =
     let size : depth s ≡ length o = ap length g.0 ∙ length-map o left_join in
     absurd (omega (arith, size, push.1, g.1))

@@ -10,3 +10,4 @@ pub mod Fronted
 pub mod Groups
 pub mod Made
 pub mod Members
+pub mod Going

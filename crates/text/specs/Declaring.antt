@@ -145,9 +145,9 @@ abbrev pub left_join : Left → Option Join
 left_join None = None
 left_join (Some (a, j)) = Some (join_of j)
 
--- the open groups, the innermost first
+-- the open groups, the innermost first, for all of which there is room
 abbrev pub GroupsAre : List Left → Kept (Option Join) → Type 0
-GroupsAre ls s = (s.waiting ≡ map left_join ls) × (length s.lent ≡ 16)
+GroupsAre ls s = (s.waiting ≡ map left_join ls) × (length s.lent ≡ 16) × (length ls ≤ 16)
 
 -- a suffix has been read and its parts made, or none stands there
 abbrev pub MarkMade : Cursor → Made → Cursor → Made → Type 0
