@@ -1,6 +1,8 @@
 -- A byte at the front of what is left of a text. Assumes nothing.
-use Rattle.std.proofs.Common.{◌≡◌, ℕ, ◌+◌, ◌<◌, ◌≤◌, List, [], ◌∷◌, ◌++◌, length, get_or, take, drop, sym, refl, ap, ◌∙◌, subst, arith}
+use Rattle.std.proofs.Common.{◌≡◌, ℕ, ◌+◌, ◌<◌, ◌≤◌, List, [], ◌∷◌, ◌++◌, false, ◌==◌, length, get_or, take, drop, sym, refl, ap, ◌∙◌, subst, arith}
 use Rattle.std.proofs.lemmas.List.{length-take-le}
+use Rattle.std.proofs.lemmas.Bool.Decides.{nat_tests}
+use Rattle.text.specs.Fronts.{Past}
 use Rattle.text.specs.Cursors.{rest_of, Moved}
 use Rattle.text.specs.declared.cursor.Cursor.{Cursor}
 
@@ -18,3 +20,15 @@ one_read old new rest b same some is m = subst (λ g. Moved old g new) (ap (take
 
 pub one_further : (old new : Cursor) → 1 ≤ length (rest_of old) → Moved old (take 1 (rest_of old)) new → (new.text.now ≡ old.text.now) × (old.at < new.at)
 one_further old new some m = (m.same, omega (arith, m.at, length-take-le 1 (rest_of old) some))
+
+-- another byte stands there, or none
+pub none_there : (rest : List ℕ) (b : ℕ) → length rest < 1 → Past (λ x. x == b) rest
+none_there [] b few = tt
+none_there (c ∷ rest) b few = absurd (omega arith)
+
+pub other_there : (rest : List ℕ) (b : ℕ) → (get_or rest 0 0 ≡ b → ⊥) → Past (λ x. x == b) rest
+other_there [] b other = tt
+other_there (c ∷ rest) b other = other_byte c b other
+  where
+    other_byte : (c b : ℕ) → (c ≡ b → ⊥) → (c == b) ≡ false
+    other_byte c b other = grind (arith, nat_tests)
