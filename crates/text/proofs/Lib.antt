@@ -11,3 +11,4 @@ pub mod Groups
 pub mod Made
 pub mod Members
 pub mod Going
+pub mod Inner

@@ -39,15 +39,15 @@ use Rattle.text.proofs.Groups.{group_pushed}
 use Rattle.text.proofs.Made.{suffix_of, joint, more_put, group_closed, marked_parts, member_marked, parts_more, parts_same, parts_joined}
 
 -- what a byte that is no separator is, behind a member
-none_by : {X : Type 0} (t : Bool) (x y : Option X) → (t ≡ true → x ≡ None) → (t ≡ false → y ≡ None) → cond t x y ≡ None
+pub none_by : {X : Type 0} (t : Bool) (x y : Option X) → (t ≡ true → x ≡ None) → (t ≡ false → y ≡ None) → cond t x y ≡ None
 none_by true x y f g = f refl
 none_by false x y f g = g refl
 
-sign_by : (h : Bool) (σ : Spot) (t : Bool) (x y : Option Sign) → (t ≡ true → signed h σ x ≡ None) → (t ≡ false → signed h σ y ≡ None) → signed h σ (cond t x y) ≡ None
+pub sign_by : (h : Bool) (σ : Spot) (t : Bool) (x y : Option Sign) → (t ≡ true → signed h σ x ≡ None) → (t ≡ false → signed h σ y ≡ None) → signed h σ (cond t x y) ≡ None
 sign_by h σ true x y f g = f refl
 sign_by h σ false x y f g = g refl
 
-never : {X : Type 0} (t : Bool) → t ≡ false → t ≡ true → X
+pub never : {X : Type 0} (t : Bool) → t ≡ false → t ≡ true → X
 never t off on = absurd (false≢true (sym off ∙ on))
 
 -- a suffix behind white space, or behind another

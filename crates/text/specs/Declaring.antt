@@ -20,7 +20,7 @@ use Rattle.grammar.specs.Machine.Spot.{outside, opened, titled, kids, mixed, wan
 use Rattle.grammar.specs.Machine.Named.{title, kid, mate}
 use Rattle.parts.specs.Stacks.{Kept}
 use Rattle.text.specs.Contents.{Made, made_of, MakesMore, join_part, mark_parts}
-use Rattle.text.specs.Cursors.{rest_of, WordRead, MarkRead}
+use Rattle.text.specs.Cursors.{rest_of, Stayed, WordRead, MarkRead}
 use Rattle.text.specs.Fronts.{Past, is_mark}
 use Rattle.text.specs.Progress.{ElementsAre, SymbolIs, CursorAt, Fails}
 use Rattle.text.specs.declared.cursor.Cursor.{Cursor}
@@ -46,6 +46,12 @@ abbrev pub Further : Result Bool PlacedCause → Cursor → Cursor → Type 0
 Further (Ok true) old new = (new.text.now ≡ old.text.now) × (old.at < new.at)
 Further (Ok false) old new = Onward old new
 Further (Err f) old new = Unit {0}
+
+-- a byte has been read, or nothing
+abbrev pub OneOver : Result Bool PlacedCause → Cursor → Cursor → Type 0
+OneOver (Ok true) old new = (new.text.now ≡ old.text.now) × (old.at < new.at)
+OneOver (Ok false) old new = Stayed old new
+OneOver (Err f) old new = Unit {0}
 
 -- a word has been read; or the text differs from it at a place
 abbrev pub WordTaken : Cursor → List ℕ → Result (Unit {0}) PlacedCause → Cursor → Type 0
@@ -194,6 +200,31 @@ GoneOn ks bytes ds n (Ok true) c e m s =
 GoneOn ks bytes ds n (Ok false) c e m s =
     (k : Content) × (σ : Spot) × ReadTo ks bytes σ false c e × Closes ds n k σ (rest_of c) × PartsFor (content_parts k) e m
 GoneOn ks bytes ds n (Err f) c e m s = Fails dtd ks bytes ds f
+
+-- 35 '#' is not next where it may stand, which is first of all
+abbrev pub HashPast : List Left → Left → List ℕ → Type 0
+HashPast [] None rest = Past (λ b. b == 35) rest
+HashPast [] (Some l) rest = Unit {0}
+HashPast (k ∷ o) l rest = Unit {0}
+
+-- a member is wanted
+pub record MemberWanted (ks : List (List ℕ)) (bytes : List ℕ) (ds : List Declaration) (n : List ℕ) (c : Cursor) (e : Elements) (m : Made) (s : Kept (Option Join)) : Type 0 where
+  pub outer : List Left
+  pub left : Left
+  pub spaced : Bool
+  pub read : ReadTo ks bytes (kids ds n (want outer left)) spaced c e
+  pub blanks : Past is_blank (rest_of c)
+  pub hash : HashPast outer left (rest_of c)
+  pub groups : GroupsAre (left ∷ outer) s
+  pub parts : PartsFor (state_parts (want outer left)) e m
+
+-- a group has begun, or a member has been read and another is wanted, or the outermost group has ended
+abbrev pub MemberRead : List (List ℕ) → List ℕ → List Declaration → List ℕ → Result Bool PlacedCause → Cursor → Elements → Made → Kept (Option Join) → Type 0
+MemberRead ks bytes ds n (Ok true) c e m s =
+    (o : List Left) × (l : Left) × ReadTo ks bytes (kids ds n (want o l)) false c e × ((rest : List ℕ) → HashPast o l rest)
+    × GroupsAre (l ∷ o) s × PartsFor (state_parts (want o l)) e m
+MemberRead ks bytes ds n (Ok false) c e m s = GoneOn ks bytes ds n (Ok false) c e m s
+MemberRead ks bytes ds n (Err f) c e m s = Fails dtd ks bytes ds f
 
 -- the declaration has ended
 abbrev pub DeclarationEnded : List (List ℕ) → List ℕ → List Declaration → Declaration → Result (Unit {0}) PlacedCause → Cursor → Elements → Made → Type 0

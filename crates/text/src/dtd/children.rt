@@ -9,7 +9,7 @@ ghost use Rattle.grammar.specs.Machine.Spot.{kids};
 ghost use Rattle.grammar.specs.Words.{Words, is_plain, is_member};
 ghost use Rattle.text.specs.Contents.{made_of};
 ghost use Rattle.text.specs.Cursors.{rest_of};
-ghost use Rattle.text.specs.Declaring.{ReadTo, PartsFor, state_parts, Ended, GroupsAre, left_join, GroupOpened, GoneOn, SuffixPast, Further, SeparatorIs, may_join, JoinMade, MarkMade};
+ghost use Rattle.text.specs.Declaring.{ReadTo, PartsFor, state_parts, Ended, GroupsAre, left_join, GroupOpened, GoneOn, SuffixPast, Further, OneOver, MemberWanted, MemberRead, SeparatorIs, may_join, JoinMade, MarkMade};
 ghost use Rattle.text.specs.Fronts.{Past, is_mark};
 ghost use Rattle.text.specs.Progress.{NamesGrow};
 ghost use Rattle.text.specs.declared.elements.Elements.{Elements};
@@ -28,7 +28,7 @@ pub const MOST_GROUPS: usize = 16;
 // Reads the `(` of a group within another, and says whether one stands here.
 fn opens(cursor: &mut Cursor<'_>, groups: &mut Stack<'_, Option<Join>>) -> Result<bool, PlacedCause>
     ensures opened { (ks : List (List ℕ)) (bytes : List ℕ) (ds : List Declaration) (n : List ℕ) (o : List Left) (l : Left) (h : Bool) (e : Elements) → ReadTo ks bytes (kids ds n (want o l)) h cursor.old e → GroupsAre (l ∷ o) groups.old → GroupOpened ks bytes ds n o l h result cursor.new e groups.new }
-    ensures further { Further result cursor.old cursor.new }
+    ensures over { OneOver result cursor.old cursor.new }
 {
     let [b'(', ..] = cursor.rest() else {
         return Ok(false);
@@ -129,6 +129,25 @@ fn goes_on(
     }
 }
 
+// Reads the `(` of a group, or a name and what follows it. Says whether a member follows.
+fn member(
+    cursor: &mut Cursor<'_>,
+    elements: &mut Elements,
+    made: &mut Content,
+    groups: &mut Stack<'_, Option<Join>>,
+) -> Result<bool, PlacedCause>
+    ensures read { (ks : List (List ℕ)) (bytes : List ℕ) (ds : List Declaration) (n : List ℕ) → MemberWanted ks bytes ds n cursor.old elements.old made.old groups.old → MemberRead ks bytes ds n result cursor.new elements.new made.new groups.new }
+    ensures grow { NamesGrow elements.old elements.new }
+    ensures further { Further result cursor.old cursor.new }
+{
+    if opens(cursor, groups)? {
+        return Ok(true);
+    }
+    let symbol = child(cursor, elements)?;
+    made.symbol(symbol);
+    goes_on(cursor, made, groups)
+}
+
 /// Reads the members of the outermost group and of those within, to its end and its suffix.
 pub(super) fn children(
     cursor: &mut Cursor<'_>,
@@ -143,14 +162,8 @@ pub(super) fn children(
     let mut groups = Stack::new(&mut joins);
     // there is room, so nothing comes back
     let _ = groups.push(None);
-    loop {
-        if !opens(cursor, &mut groups)? {
-            let symbol = child(cursor, elements)?;
-            made.symbol(symbol);
-            if !goes_on(cursor, made, &mut groups)? {
-                return Ok(());
-            }
-        }
+    while member(cursor, elements, made, &mut groups)? {
         cursor.skip_blanks();
     }
+    Ok(())
 }
