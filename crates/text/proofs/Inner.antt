@@ -20,7 +20,7 @@ use Rattle.grammar.specs.Machine.Spot.{kids}
 use Rattle.grammar.specs.Machine.Named.{kid}
 use Rattle.text.specs.Contents.{Made, made_of, MakesMore, symbol_part}
 use Rattle.text.specs.Cursors.{rest_of, Stayed, BlanksRead}
-use Rattle.text.specs.Declaring.{ReadTo, GroupsAre, GroupOpened, GoneOn, HashPast, MemberWanted, MemberRead, WantsName, ChildRead, PartsFor, OneOver, Further, Onward, left_join, state_parts, outer_parts, left_parts}
+use Rattle.text.specs.Declaring.{ReadTo, Ended, GroupsAre, GroupOpened, GoneOn, HashPast, MemberWanted, MemberRead, WantsName, ChildRead, PartsFor, OneOver, Further, Onward, left_join, state_parts, outer_parts, left_parts}
 use Rattle.text.specs.Fronts.{Past}
 use Rattle.text.specs.Progress.{NamesGrow, SymbolIs, Fails}
 use Rattle.text.specs.declared.cursor.Cursor.{Cursor}
@@ -106,6 +106,12 @@ pub member_fails : (ks : List (List ℕ)) (bytes : List ℕ) (ds : List Declarat
 member_fails ks bytes ds n f r c e m s fails err =
     let p = err_from_is_err_and r err in
     subst (λ x. MemberRead ks bytes ds n x c e m s) (sym p.1) (subst (Fails dtd ks bytes ds) (sym p.2) fails)
+
+pub ended_fails : (ks : List (List ℕ)) (bytes : List ℕ) (ds : List Declaration) (n : List ℕ) (f : PlacedCause) (r : Result (Unit {0}) PlacedCause) (c : Cursor) (e : Elements) (m : Made)
+    → Fails dtd ks bytes ds f → IsErrAnd r (λ g. g ≡ f) → Ended ks bytes ds n r c e m
+ended_fails ks bytes ds n f r c e m fails err =
+    let p = err_from_is_err_and r err in
+    subst (λ x. Ended ks bytes ds n x c e m) (sym p.1) (subst (Fails dtd ks bytes ds) (sym p.2) fails)
 
 -- before the first member, and before the next one
 pub first_wanted : (ks : List (List ℕ)) (bytes : List ℕ) (ds : List Declaration) (n : List ℕ) (h : Bool) (c : Cursor) (e : Elements) (m : Made) (s t : Kept (Option Join)) (pushed : Result (Unit {0}) (Option Join))
