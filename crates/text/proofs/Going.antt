@@ -1,5 +1,5 @@
 -- What is read of the groups that end behind a member, and of the outermost one. Assumes nothing.
-use Rattle.std.proofs.Common.{◌≡◌, ℕ, suc, ◌+◌, ◌<◌, ◌≤◌, ◌⊎◌, inl, inr, Bool, true, false, cond, ◌==◌, List, [], ◌∷◌, ◌++◌, length, get_or, take, drop, map, Some, None, Option, Ok, Err, Result, sym, refl, ap, ◌∙◌, subst, arith}
+use Rattle.std.proofs.Common.{◌≡◌, ℕ, ◌<◌, ◌≤◌, ◌⊎◌, inl, inr, Bool, true, false, cond, List, [], ◌∷◌, length, get_or, take, drop, Some, None, Option, Ok, sym, refl, ap, ◌∙◌, subst, arith}
 use Rattle.std.proofs.lemmas.Bool.{false≢true}
 use Rattle.parts.specs.Stacks.{Kept, Popped}
 use Rattle.grammar.specs.Bytes.{is_blank}
@@ -8,18 +8,18 @@ use Rattle.grammar.specs.Words.{Words, is_plain, is_member}
 use Rattle.grammar.specs.Words.Words.{name, nothing, group, marked, joined}
 use Rattle.grammar.specs.Words.Sign.{closes, suffix}
 use Rattle.grammar.specs.Lists.{Left, put}
-use Rattle.grammar.specs.Lists.State.{want, got}
-use Rattle.grammar.specs.Declarations.{Content, Declaration, Sign, sign_bytes}
+use Rattle.grammar.specs.Lists.State.{got}
+use Rattle.grammar.specs.Declarations.{Declaration, sign_bytes}
 use Rattle.grammar.specs.Declarations.Content.{children}
 use Rattle.grammar.specs.Declarations.Sign.{inner}
-use Rattle.grammar.specs.Machine.{Spot, go, kids_of, refused, spelled}
+use Rattle.grammar.specs.Machine.{kids_of, refused}
 use Rattle.grammar.specs.Machine.Spot.{kids, grouped, full}
-use Rattle.grammar.specs.Meaning.{tree_of, suffixed}
+use Rattle.grammar.specs.Meaning.{tree_of}
 use Rattle.models.specs.Written.{sheet}
-use Rattle.text.specs.Contents.{Made, made_of, MakesMore, mark_parts}
-use Rattle.text.specs.Cursors.{rest_of, Moved, Stayed, BlanksRead, MarkRead}
-use Rattle.text.specs.Declaring.{ReadTo, GroupsAre, GoneOn, SuffixPast, MarkMade, JoinMade, PartsFor, Onward, left_join, state_parts, content_parts, Closes}
-use Rattle.text.specs.Fronts.{Past, is_mark, mark_byte, mark_bytes}
+use Rattle.text.specs.Contents.{Made, mark_parts}
+use Rattle.text.specs.Cursors.{rest_of, Moved, BlanksRead}
+use Rattle.text.specs.Declaring.{ReadTo, GroupsAre, GoneOn, SuffixPast, MarkMade, JoinMade, PartsFor, Onward, left_join, state_parts, content_parts}
+use Rattle.text.specs.Fronts.{Past, is_mark, mark_bytes}
 use Rattle.text.specs.declared.cursor.Cursor.{Cursor}
 use Rattle.text.specs.declared.elements.Elements.{Elements}
 use Rattle.text.specs.declared.join.Join.{Join}
@@ -28,7 +28,7 @@ use Rattle.text.specs.declared.mark.Mark.TheVariants as mark
 use Rattle.text.proofs.Walking.{stays_at, over_blanks}
 use Rattle.text.proofs.Quiet.{over_quiet}
 use Rattle.text.proofs.Fronted.{one_read}
-use Rattle.text.proofs.Made.{suffix_of, joint, more_put, group_closed, marked_parts, member_marked, parts_more, parts_same, parts_joined}
+use Rattle.text.proofs.Made.{suffix_of, more_put, group_closed, marked_parts, member_marked, parts_more, parts_joined}
 
 -- a member has been read, or the outermost group
 abbrev pub AtMember : List (List ℕ) → List ℕ → List Declaration → List ℕ → Cursor → Elements → Made → Kept (Option Join) → Type 0
@@ -73,16 +73,24 @@ bytes_of mark.Any = refl
 past_member : (ks : List (List ℕ)) (bytes : List ℕ) (ds : List Declaration) (n : List ℕ) (old new : Cursor) (e : Elements) (first last : Made) (s : Kept (Option Join))
     → AtMember ks bytes ds n old e first s → MarkMade old first new last → PastMember ks bytes ds n new e last s
 past_member ks bytes ds n old new e first last s (o, l, w, r, plain, g, parts) (None, (stayed, past), made) = (
-  o, l, w,
+  o,
+  l,
+  w,
   record { cursor = stays_at ks bytes (kids ds n (got o l w)) false old new r.cursor stayed; elements = r.elements },
-  plain_member w plain, (λ _. past), g,
+  plain_member w plain,
+  (λ _. past),
+  g,
   (λ names. made ∙ parts names),
 )
 past_member ks bytes ds n old new e first last s (o, l, w, r, plain, g, parts) (Some m, moved, made) = (
-  o, l, marked w (suffix_of m),
+  o,
+  l,
+  marked w (suffix_of m),
   over_quiet ks bytes (kids ds n (got o l w)) false (inner (suffix (suffix_of m))) (kids ds n (got o l (marked w (suffix_of m)))) old new e r tt refl
-  (ap (λ t. kids_of ds n (cond t (Some (got o l (marked w (suffix_of m)))) None)) plain) tt (subst (λ g. Moved old g new) (bytes_of m) moved) ((λ x. x), (λ x. x)),
-  refl, (λ no_more. absurd (false≢true no_more)), g,
+      (ap (λ t. kids_of ds n (cond t (Some (got o l (marked w (suffix_of m)))) None)) plain) tt (subst (λ g. Moved old g new) (bytes_of m) moved) ((λ x. x), (λ x. x)),
+  refl,
+  (λ no_more. absurd (false≢true no_more)),
+  g,
   parts_more (state_parts (got o l w)) (state_parts (got o l (marked w (suffix_of m)))) (mark_parts m) e first last parts made (λ ks. member_marked ks o l w m),
 )
 
@@ -103,7 +111,7 @@ past_group ks bytes ds n old new e first last s (v, r, g, parts) (Some m, moved,
     children (marked (group v) (suffix_of m)),
     full ds n (children (marked (group v) (suffix_of m))),
     over_quiet ks bytes (grouped ds n v) false (inner (suffix (suffix_of m))) (full ds n (children (marked (group v) (suffix_of m)))) old new e r tt refl refl tt
-    (subst (λ g. Moved old g new) (bytes_of m) moved) ((λ x. x), (λ x. x)),
+        (subst (λ g. Moved old g new) (bytes_of m) moved) ((λ x. x), (λ x. x)),
     (refl, refl, refl),
     parts_more (group_parts v) (content_parts (children (marked (group v) (suffix_of m)))) (mark_parts m) e first last parts made (λ ks. marked_parts m (tree_of ks v)),
   ),
@@ -176,9 +184,12 @@ closed ks bytes ds n [] l w h old new e first last s r g room parts moved made =
   parts_joined (state_parts (got [] l w)) (group_parts (put l w)) l e first last parts made (λ ks. more_put ks [] l w),
 )
 closed ks bytes ds n (k ∷ o) l w h old new e first last s r g room parts moved made = inl (
-  o, k, group (put l w),
+  o,
+  k,
+  group (put l w),
   over_quiet ks bytes (kids ds n (got (k ∷ o) l w)) h (inner closes) (kids ds n (got o k (group (put l w)))) old new e r tt (may_close ds n (k ∷ o) l w h) refl tt moved ((λ x. x), (λ x. x)),
-  refl, g,
+  refl,
+  g,
   parts_joined (state_parts (got (k ∷ o) l w)) (state_parts (got o k (group (put l w)))) l e first last parts made (λ ks. group_closed ks k o l w),
 )
 

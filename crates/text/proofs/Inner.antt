@@ -1,8 +1,8 @@
 -- A member of a group: a group that opens, or a name and what follows it. Assumes nothing.
-use Rattle.std.proofs.Common.{◌≡◌, ℕ, ◌+◌, ◌<◌, ◌≤◌, Bool, true, false, cond, ◌==◌, List, [], ◌∷◌, ◌++◌, length, drop, map, Some, None, Option, Ok, Err, Result, IsErrAnd, sym, refl, ap, ◌∙◌, subst, arith}
-use Rattle.std.proofs.lemmas.List.{append_assoc, append-nil, length-replicate}
+use Rattle.std.proofs.Common.{◌≡◌, ℕ, Bool, true, false, cond, ◌==◌, List, [], ◌∷◌, ◌++◌, drop, Some, None, Option, Ok, Err, Result, IsErrAnd, sym, refl, ap, ◌∙◌, subst}
+use Rattle.std.proofs.lemmas.List.{append_assoc, append-nil}
 use Rattle.std.proofs.lemmas.Result.{err_from_is_err_and}
-use Rattle.parts.specs.Stacks.{Kept, Pushed}
+use Rattle.parts.specs.Stacks.{Kept}
 use Rattle.names.specs.Numbering.{known_after, symbol_in}
 use Rattle.names.proofs.Numbering.{met_in_turn}
 use Rattle.grammar.specs.Bytes.{is_blank, begins_name}
@@ -15,12 +15,11 @@ use Rattle.grammar.specs.Lists.{Left}
 use Rattle.grammar.specs.Lists.State.{want, got}
 use Rattle.grammar.specs.Declarations.{Declaration, Sign}
 use Rattle.grammar.specs.Declarations.Sign.{inner, ends}
-use Rattle.grammar.specs.Machine.{Spot, Phase, Named, go, into, signed, sign_at, feed_at, lettered, angled, hashed, hashed_in, refused}
+use Rattle.grammar.specs.Machine.{Spot, Phase, go, into, signed, lettered, angled, hashed, refused}
 use Rattle.grammar.specs.Machine.Spot.{kids}
-use Rattle.grammar.specs.Machine.Named.{kid}
-use Rattle.text.specs.Contents.{Made, made_of, MakesMore, symbol_part}
+use Rattle.text.specs.Contents.{Made, MakesMore, symbol_part}
 use Rattle.text.specs.Cursors.{rest_of, Stayed, BlanksRead}
-use Rattle.text.specs.Declaring.{ReadTo, Ended, GroupsAre, GroupOpened, GoneOn, HashPast, MemberWanted, MemberRead, WantsName, ChildRead, PartsFor, OneOver, Further, Onward, left_join, state_parts, outer_parts, left_parts}
+use Rattle.text.specs.Declaring.{Ended, GroupOpened, GoneOn, HashPast, MemberWanted, MemberRead, WantsName, PartsFor, state_parts, outer_parts, left_parts}
 use Rattle.text.specs.Fronts.{Past}
 use Rattle.text.specs.Progress.{NamesGrow, SymbolIs, Fails}
 use Rattle.text.specs.declared.cursor.Cursor.{Cursor}
@@ -28,7 +27,6 @@ use Rattle.text.specs.declared.elements.Elements.{Elements}
 use Rattle.text.specs.declared.fault.PlacedCause.{PlacedCause}
 use Rattle.text.specs.declared.join.Join.{Join}
 use Rattle.text.proofs.Walking.{over_blanks}
-use Rattle.text.proofs.Groups.{group_pushed}
 use Rattle.text.proofs.Made.{parts_same, parts_named, parts_later}
 use Rattle.text.proofs.Members.{none_by, sign_by, never}
 use Rattle.text.proofs.Going.{blanks_past}
@@ -113,21 +111,7 @@ ended_fails ks bytes ds n f r c e m fails err =
     let p = err_from_is_err_and r err in
     subst (λ x. Ended ks bytes ds n x c e m) (sym p.1) (subst (Fails dtd ks bytes ds) (sym p.2) fails)
 
--- before the first member, and before the next one
-pub first_wanted : (ks : List (List ℕ)) (bytes : List ℕ) (ds : List Declaration) (n : List ℕ) (h : Bool) (c : Cursor) (e : Elements) (m : Made) (s t : Kept (Option Join)) (pushed : Result (Unit {0}) (Option Join))
-    → ReadTo ks bytes (kids ds n (want [] None)) h c e → Past is_blank (rest_of c) → Past (λ b. b == 35) (rest_of c) → m ≡ made_of [] → s.waiting ≡ [] → length s.lent ≡ 16
-    → Pushed s None pushed t → MemberWanted ks bytes ds n c e m t
-first_wanted ks bytes ds n h c e m s t pushed r blank hash made none room push = record {
-  outer = [];
-  left = None;
-  spaced = h;
-  read = r;
-  blanks = blank;
-  hash = hash;
-  groups = group_pushed None [] s t pushed (none, room, omega arith) (omega arith) push;
-  parts = (λ names. made);
-}
-
+-- before the next member
 pub next_wanted : (ks : List (List ℕ)) (bytes : List ℕ) (ds : List Declaration) (n : List ℕ) (b : Bool) (old new : Cursor) (e : Elements) (m : Made) (s : Kept (Option Join))
     → MemberRead ks bytes ds n (Ok true) old e m s → BlanksRead old b new → MemberWanted ks bytes ds n new e m s
 next_wanted ks bytes ds n b old new e m s (o, l, r, hash, g, parts) blanks = record {
@@ -141,9 +125,6 @@ next_wanted ks bytes ds n b old new e m s (o, l, r, hash, g, parts) blanks = rec
   parts = parts;
 }
 
--- names were added, or none
-pub grow_none : (e : Elements) → NamesGrow e e
-grow_none e = ([], refl)
-
+-- names were added
 pub grow_then : (a b c : Elements) → NamesGrow a b → NamesGrow b c → NamesGrow a c
 grow_then a b c (ns, first) (ms, then) = (ns ++ ms, then ∙ ap (λ ks. known_after ks ms) first ∙ sym (met_in_turn a.names ns ms))

@@ -1,6 +1,6 @@
 //! Groups of names, and what is within them.
 
-ghost use Rattle.std.specs.Prelude.{◌≡◌, ◌<◌, Bool, true, false, List, [], ◌∷◌, ℕ, None, map, length, ◌==◌};
+ghost use Rattle.std.specs.Prelude.{◌≡◌, ◌<◌, Bool, true, false, List, [], ◌∷◌, ℕ, None, length, ◌==◌};
 ghost use Rattle.grammar.specs.Bytes.{is_blank};
 ghost use Rattle.grammar.specs.Declarations.{Declaration};
 ghost use Rattle.grammar.specs.Lists.{Left};
@@ -10,7 +10,7 @@ ghost use Rattle.grammar.specs.Words.{Words, is_plain, is_member};
 ghost use Rattle.text.specs.Contents.{made_of};
 ghost use Rattle.text.specs.Cursors.{rest_of};
 ghost use Rattle.text.specs.Declaring.{ReadTo, PartsFor, state_parts, Ended, GroupsAre, left_join, GroupOpened, GoneOn, SuffixPast, Further, OneOver, MemberWanted, MemberRead, SeparatorIs, may_join, JoinMade, MarkMade};
-ghost use Rattle.text.specs.Fronts.{Past, is_mark};
+ghost use Rattle.text.specs.Fronts.{Past};
 ghost use Rattle.text.specs.Progress.{NamesGrow};
 ghost use Rattle.text.specs.declared.elements.Elements.{Elements};
 
