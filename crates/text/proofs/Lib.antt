@@ -10,3 +10,10 @@ pub mod Reading
 pub mod ContentLemmas
 pub mod ElementLemmas
 pub mod Opening
+pub mod Quiet
+pub mod Fronted
+pub mod Groups
+pub mod Made
+pub mod Members
+pub mod Going
+pub mod Inner
