@@ -5,3 +5,5 @@ pub mod CursorLemmas
 pub mod Comments
 pub mod Walking
 pub mod Children
+pub mod Contents
+pub mod Mixed

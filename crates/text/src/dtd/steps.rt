@@ -3,7 +3,7 @@
 ghost use Rattle.std.specs.Prelude.{◌≡◌, Bool, List, ℕ};
 ghost use Rattle.grammar.specs.Machine.{Named, name_before};
 ghost use Rattle.text.specs.Cursors.{rest_of};
-ghost use Rattle.text.specs.Declaring.{ReadTo, WordTaken, IsChildName, WantsName, ChildRead};
+ghost use Rattle.text.specs.Declaring.{ReadTo, WordTaken, IsChildName, WantsName, ChildRead, Onward};
 ghost use Rattle.text.specs.Progress.{NamesGrow};
 ghost use Rattle.text.specs.declared.fault.TextCause.TheVariants.{NotDeclarations};
 
@@ -32,6 +32,7 @@ pub(super) fn word(cursor: &mut Cursor<'_>, word: &[u8]) -> Result<(), PlacedCau
 pub(super) fn child(cursor: &mut Cursor<'_>, elements: &mut Elements) -> Result<u32, PlacedCause>
     ensures read { (ks : List (List ℕ)) (bytes : List ℕ) (a : Named) (h : Bool) → IsChildName a → ReadTo ks bytes (name_before a) h cursor.old elements.old → WantsName (name_before a) h (rest_of cursor.old) → ChildRead ks bytes a result cursor.new elements.new }
     ensures grow { NamesGrow elements.old elements.new }
+    ensures onward { Onward cursor.old cursor.new }
 {
     let place = cursor.at;
     let Some(name) = cursor.name() else {
