@@ -6,7 +6,8 @@ use Rattle.std.proofs.lemmas.Slice.Eq.{starts_is}
 use Rattle.std.proofs.lemmas.List.{map-append}
 use Rattle.std.proofs.Math.Dec.{eqb}
 use Rattle.std.specs.List.{starts_with}
-use Rattle.names.specs.Numbering.{symbol_in, is_known, known_after}
+use Rattle.names.specs.Numbering.{known_after}
+use Rattle.names.proofs.Numbering.{met_in_turn}
 use Rattle.parts.specs.Sets.{In}
 use Rattle.parts.specs.Parts.{blank}
 use Rattle.parts.specs.declared.part.Part.{Part}
@@ -23,18 +24,18 @@ use Rattle.grammar.specs.Meaning.{suffixed, joining}
 use Rattle.grammar.specs.Declarations.{Sign, sign_bytes}
 use Rattle.grammar.specs.Declarations.Sign.{element, declared, empty_word, any_word, pcdata_word, inner, ends}
 use Rattle.grammar.specs.Faults.{EndsWell, Faultless, names_among, begun, is_declared}
-use Rattle.grammar.specs.Machine.{Spot, SignFits, go, spelled, refused, spaced, sign_at, signed, into, lettered, angled, hashed, feed_at}
+use Rattle.grammar.specs.Machine.{Spot, SignFits, go, spelled, refused, spaced, tight, sign_at, signed, into, lettered, angled, hashed, feed_at}
 use Rattle.grammar.proofs.Steps.{spelled_on}
 use Rattle.text.specs.Contents.{join_part, repeat_part, mark_parts}
-use Rattle.text.specs.Cursors.{rest_of, Moved}
-use Rattle.text.specs.Declaring.{ReadTo, join_of}
+use Rattle.text.specs.Cursors.{rest_of, Moved, BlanksRead}
+use Rattle.text.specs.Declaring.{ReadTo, join_of, Onward}
 use Rattle.text.specs.Fronts.{Past}
-use Rattle.text.specs.Progress.{DeclaredAre, ElementsAre, CursorAt}
+use Rattle.text.specs.Progress.{ElementsAre, NamesGrow}
 use Rattle.text.specs.declared.cursor.Cursor.{Cursor}
 use Rattle.text.specs.declared.elements.Elements.{Elements}
 use Rattle.text.specs.declared.mark.Mark.{Mark as Suffix}
 use Rattle.text.specs.declared.mark.Mark.TheVariants as mark
-use Rattle.text.proofs.Walking.{over_sign}
+use Rattle.text.proofs.Walking.{over_sign, over_blanks}
 
 -- the sign is no name, and begins never declaration
 abbrev pub Quiet : Sign → Type 0
@@ -191,3 +192,26 @@ pub mark_sheet : (m : Mark) (t : Tree) → sheet (suffixed m t) ≡ sheet t ++ m
 mark_sheet optional t = option_sheet t
 mark_sheet repeated t = count_sheet t
 mark_sheet any t = any_sheet t
+
+-- over white space, or none
+pub read_blanks : (ks : List (List ℕ)) (bytes : List ℕ) (σ : Spot) (h b : Bool) (old new : Cursor) (e : Elements) → ReadTo ks bytes σ h old e → tight σ ≡ false
+    → BlanksRead old b new → ReadTo ks bytes σ (cond b true h) new e
+read_blanks ks bytes σ h b old new e r loose read = record {
+  cursor = over_blanks ks bytes σ h b old new r.cursor loose read;
+  elements = r.elements;
+}
+
+pub blanks_past : (b : Bool) (old new : Cursor) → BlanksRead old b new → Past is_blank (rest_of new)
+blanks_past true old new read = read.1
+blanks_past false old new read = read.1
+
+pub blanks_onward : (b : Bool) (old new : Cursor) → BlanksRead old b new → Onward old new
+blanks_onward true old new ((g, is, m), past) = (m.same, omega (arith, m.at))
+blanks_onward false old new (stayed, past) = (stayed.0, omega (arith, stayed.1))
+
+-- names were only added, step by step
+pub grow_on : (a b c : Elements) → NamesGrow a b → NamesGrow b c → NamesGrow a c
+grow_on a b c (ns, e) (ms, f) = (ns ++ ms, f ∙ ap (λ ks. known_after ks ms) e ∙ sym (met_in_turn a.names ns ms))
+
+pub grow_none : (a : Elements) → NamesGrow a a
+grow_none a = ([], refl)

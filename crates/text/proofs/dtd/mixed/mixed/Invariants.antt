@@ -14,4 +14,4 @@ invariant-loop-cursor l = record {
 }
 
 abbrev pub decreases-loop-cursor : goal.decreases-loop-cursor
-decreases-loop-cursor l = length l.cursor.text - l.cursor.at
+decreases-loop-cursor l = length l.cursor.text.now - l.cursor.at
