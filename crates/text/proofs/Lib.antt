@@ -5,5 +5,7 @@ pub mod CursorLemmas
 pub mod Comments
 pub mod Walking
 pub mod Children
+pub mod Opens
 pub mod Contents
 pub mod Mixed
+pub mod Titles
