@@ -87,10 +87,13 @@ content_missing ks bytes ds n old new e r read letter other paren =
 pub empty_ended : (ks : List (List ℕ)) (bytes : List ℕ) (ds : List Declaration) (n : List ℕ) (c₀ old new : Cursor) (e : Elements) (before after : Made)
     → ReadTo ks bytes (titled ds n) false c₀ e → BlanksRead c₀ true old → Moved old (codes "EMPTY") new → before ≡ made_of [] → MakesMore before (blank ∷ []) after
     → Ended ks bytes ds n (Ok tt) new e after
-empty_ended ks bytes ds n c₀ old new e before after r read m empty adds =
-    (none, full ds n none,
-     over_quiet ks bytes (titled ds n) true empty_word (full ds n none) old new e (read_blanks ks bytes (titled ds n) false true c₀ old e r refl read) refl refl tt m tt ((λ x. x), (λ x. x)) tt,
-     (refl, refl, refl), (λ more. adds [] empty))
+empty_ended ks bytes ds n c₀ old new e before after r read m empty adds = (
+  none,
+  full ds n none,
+  over_quiet ks bytes (titled ds n) true empty_word (full ds n none) old new e (read_blanks ks bytes (titled ds n) false true c₀ old e r refl read) refl refl tt m tt ((λ x. x), (λ x. x)) tt,
+  (refl, refl, refl),
+  (λ more. adds [] empty),
+)
 
 pub empty_missing : (ks : List (List ℕ)) (bytes : List ℕ) (ds : List Declaration) (n : List ℕ) (c₀ old new : Cursor) (rest : List ℕ) (e : Elements) (cause : PlacedCause)
     → ReadTo ks bytes (titled ds n) false c₀ e → BlanksRead c₀ true old → rest ≡ rest_of old → 1 ≤ length rest → get_or rest 0 0 ≡ 69 → WordTaken old (codes "EMPTY") (Err cause) new
