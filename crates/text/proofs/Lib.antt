@@ -17,3 +17,7 @@ pub mod Made
 pub mod Members
 pub mod Going
 pub mod Inner
+pub mod Opens
+pub mod Contents
+pub mod Mixed
+pub mod Titles

@@ -47,12 +47,15 @@ Further (Ok true) old new = (new.text.now ≡ old.text.now) × (old.at < new.at)
 Further (Ok false) old new = Onward old new
 Further (Err f) old new = Unit {0}
 
+<<<<<<< HEAD
 -- a byte has been read, or nothing
 abbrev pub OneOver : Result Bool PlacedCause → Cursor → Cursor → Type 0
 OneOver (Ok true) old new = (new.text.now ≡ old.text.now) × (old.at < new.at)
 OneOver (Ok false) old new = Stayed old new
 OneOver (Err f) old new = Unit {0}
 
+=======
+>>>>>>> 800afcdc2a61bf365913a2ba9bf17b8fc5ef3f00
 -- a word has been read; or the text differs from it at a place
 abbrev pub WordTaken : Cursor → List ℕ → Result (Unit {0}) PlacedCause → Cursor → Type 0
 WordTaken old word (Ok u) new = WordRead old word (Ok u) new
@@ -128,9 +131,9 @@ is_alone (n ∷ ns) = false
 abbrev pub content_parts : Content → List (List ℕ) → List Part
 content_parts k ks = sheet (tree_of ks (words k))
 
--- the spot at which the content k has ended, where its suffix was looked for
+-- the spot at which the content k has ended, where its suffix was looked for: behind #PCDATA it is '*', 42, alone
 abbrev pub Closes : List Declaration → List ℕ → Content → Spot → List ℕ → Type 0
-Closes ds n k (starless es m []) rest = (es ≡ ds) × (m ≡ n) × (k ≡ text [] false) × Past is_mark rest
+Closes ds n k (starless es m []) rest = (es ≡ ds) × (m ≡ n) × (k ≡ text [] false) × Past (λ b. b == 42) rest
 Closes ds n k (grouped es m v) rest = (es ≡ ds) × (m ≡ n) × (k ≡ children (group v)) × Past is_mark rest
 Closes ds n k (full es m c) rest = (es ≡ ds) × (m ≡ n) × (k ≡ c)
 Closes ds n k σ rest = ⊥

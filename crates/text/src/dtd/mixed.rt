@@ -27,7 +27,7 @@ fn mixed_end(cursor: &mut Cursor<'_>, made: &mut Content, alone: bool) -> Result
         return Err(misplaced(cursor));
     };
     cursor.advance(1);
-    let starred = matches!(cursor.rest(), [b'*', ..]);
+    let starred = cursor.rest().starts_with(b"*");
     if starred {
         cursor.advance(1);
     }
