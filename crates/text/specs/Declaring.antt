@@ -2,7 +2,7 @@
 use Rattle.std.specs.Prelude.{◌≡◌, ℕ, ◌<◌, ◌≤◌, Bool, true, false, ◌==◌, List, [], ◌∷◌, ◌++◌, length, map, codes, Some, None, Ok, Err, Option, Result}
 use Rattle.parts.specs.declared.part.Part.{Part}
 use Rattle.models.specs.Written.{sheet}
-use Rattle.names.specs.Numbering.{known_after}
+use Rattle.names.specs.Numbering.{symbol_in, known_after}
 use Rattle.grammar.specs.Bytes.{is_blank, begins_name}
 use Rattle.grammar.specs.Notations.Notation.{dtd}
 use Rattle.grammar.specs.Words.{Words}
@@ -15,7 +15,7 @@ use Rattle.grammar.specs.Declarations.{Content, Declaration, all_signs, words, a
 use Rattle.grammar.specs.Declarations.Content.{none, whatever, text, children}
 use Rattle.grammar.specs.Meaning.{tree_of}
 use Rattle.grammar.specs.Faults.{Gives}
-use Rattle.grammar.specs.Machine.{Spot, spelled, Named, name_before, name_after, feed_at, spot_read, made}
+use Rattle.grammar.specs.Machine.{Spot, spelled, Named, name_before, name_after, feed_at, spot_read, made as declaration_of}
 use Rattle.grammar.specs.Machine.Spot.{outside, opened, titled, kids, mixed, wanted, starless, grouped, full}
 use Rattle.grammar.specs.Machine.Named.{title, kid, mate}
 use Rattle.parts.specs.Stacks.{Kept}
@@ -47,15 +47,12 @@ Further (Ok true) old new = (new.text.now ≡ old.text.now) × (old.at < new.at)
 Further (Ok false) old new = Onward old new
 Further (Err f) old new = Unit {0}
 
-<<<<<<< HEAD
 -- a byte has been read, or nothing
 abbrev pub OneOver : Result Bool PlacedCause → Cursor → Cursor → Type 0
 OneOver (Ok true) old new = (new.text.now ≡ old.text.now) × (old.at < new.at)
 OneOver (Ok false) old new = Stayed old new
 OneOver (Err f) old new = Unit {0}
 
-=======
->>>>>>> 800afcdc2a61bf365913a2ba9bf17b8fc5ef3f00
 -- a word has been read; or the text differs from it at a place
 abbrev pub WordTaken : Cursor → List ℕ → Result (Unit {0}) PlacedCause → Cursor → Type 0
 WordTaken old word (Ok u) new = WordRead old word (Ok u) new
@@ -234,3 +231,11 @@ abbrev pub DeclarationEnded : List (List ℕ) → List ℕ → List Declaration 
 DeclarationEnded ks bytes ds d (Ok u) c e m =
     ReadTo ks bytes (outside (ds ++ (d ∷ []))) false c e × ((ns : List (List ℕ)) → length (content_parts d.content ns) ≤ 256)
 DeclarationEnded ks bytes ds d (Err f) c e m = Fails dtd ks bytes ds f
+
+-- the next declaration has been read, or the text has ended
+abbrev pub DeclarationRead : List (List ℕ) → List ℕ → List Declaration → Result (Option Element) PlacedCause → Cursor → Elements → Made → Type 0
+DeclarationRead ks bytes ds (Ok None) c e m = Gives dtd ks bytes ds None × ((h : Bool) × ReadTo ks bytes (outside ds) h c e)
+DeclarationRead ks bytes ds (Ok (Some el)) c e m =
+    (k : Content) × ReadTo ks bytes (outside (ds ++ (declaration_of el.name.now k ∷ []))) false c e
+    × (el.symbol ≡ symbol_in e.names el.name.now) × (m ≡ made_of (content_parts k e.names)) × (length (content_parts k e.names) ≤ 256)
+DeclarationRead ks bytes ds (Err f) c e m = Fails dtd ks bytes ds f

@@ -1,20 +1,18 @@
 //! Element declarations of a DTD (docs/TEXTS.md).
 
-ghost use Rattle.std.specs.Prelude.{◌≡◌, [], List, ℕ};
+ghost use Rattle.std.specs.Prelude.{◌≡◌, Bool, [], List, ℕ};
 ghost use Rattle.grammar.specs.Notations.Notation.{dtd};
 ghost use Rattle.grammar.specs.Declarations.{Declaration};
-ghost use Rattle.grammar.proofs.Faults.{gives_one};
 ghost use Rattle.text.specs.Contents.{made_of};
-ghost use Rattle.text.specs.Declaring.{DeclarationRead};
+ghost use Rattle.grammar.specs.Machine.Spot.{outside};
+ghost use Rattle.text.specs.Declaring.{ReadTo, DeclarationRead};
 ghost use Rattle.text.specs.Progress.{NamesGrow};
-ghost use Rattle.text.proofs.Whole.{gives_some};
 
 use crate::content::Content;
 use crate::cursor::Cursor;
 use crate::element::Element;
 use crate::elements::Elements;
 use crate::fault::PlacedCause;
-use crate::notation::Notation;
 
 mod children;
 mod content;

@@ -128,4 +128,3 @@ returns-in-Err-clause-goes_on g c =
     let back = names_back i.elements c.declaration-read.new.elements _ _ c.in-Err.ensures.grow c.len-known.ensures.size c.truncate.ensures.first in
     seen_same g.N.Notation.which i.text.now i.elements (record { names = c.truncate.new.self; declared = c.declaration-read.new.elements.declared; begun = c.declaration-read.new.elements.begun }) i.known i.texts i.given (ap (take i.known) back)
     ∙ c.self.view_is
-
