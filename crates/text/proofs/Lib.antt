@@ -5,7 +5,13 @@ pub mod CursorLemmas
 pub mod Comments
 pub mod Walking
 pub mod Children
-pub mod Opens
+pub mod Quiet
+pub mod Fronted
+pub mod Groups
+pub mod Made
+pub mod Members
+pub mod Going
+pub mod Inner
 pub mod Contents
 pub mod Mixed
 pub mod Titles

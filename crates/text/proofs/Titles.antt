@@ -24,7 +24,7 @@ use Rattle.text.specs.declared.cursor.Cursor.{Cursor}
 use Rattle.text.specs.declared.elements.Elements.{Elements}
 use Rattle.text.specs.declared.fault.PlacedCause.{PlacedCause}
 use Rattle.text.specs.declared.fault.TextCause.TheVariants.{NotDeclarations, AnyContent}
-use Rattle.text.proofs.Opens.{open-append, all_open}
+use Rattle.text.proofs.Groups.{open-append, all_open}
 use Rattle.text.proofs.Walking.{placed, stays_at, Refuses, byte_fails, word_fails, sign_fails}
 use Rattle.text.proofs.Contents.{over_quiet, read_blanks, blanks_past, byte_refused, signs_refused, unlike, unspaced}
 

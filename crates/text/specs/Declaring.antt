@@ -19,8 +19,8 @@ use Rattle.grammar.specs.Machine.{Spot, spelled, Named, name_before, name_after,
 use Rattle.grammar.specs.Machine.Spot.{outside, opened, titled, kids, mixed, wanted, starless, grouped, full}
 use Rattle.grammar.specs.Machine.Named.{title, kid, mate}
 use Rattle.parts.specs.Stacks.{Kept}
-use Rattle.text.specs.Contents.{Made, made_of}
-use Rattle.text.specs.Cursors.{rest_of, WordRead}
+use Rattle.text.specs.Contents.{Made, made_of, MakesMore, join_part, mark_parts}
+use Rattle.text.specs.Cursors.{rest_of, Stayed, WordRead, MarkRead}
 use Rattle.text.specs.Fronts.{Past, is_mark}
 use Rattle.text.specs.Progress.{ElementsAre, SymbolIs, CursorAt, Fails}
 use Rattle.text.specs.declared.cursor.Cursor.{Cursor}
@@ -28,6 +28,7 @@ use Rattle.text.specs.declared.elements.Elements.{Elements}
 use Rattle.text.specs.declared.element.Element.{Element}
 use Rattle.text.specs.declared.fault.PlacedCause.{PlacedCause}
 use Rattle.text.specs.declared.fault.TextCause.TheVariants.{NotDeclarations}
+use Rattle.text.specs.declared.mark.Mark.{Mark}
 use Rattle.text.specs.declared.join.Join.{Join}
 use Rattle.text.specs.declared.join.Join.TheVariants as join
 
@@ -45,6 +46,12 @@ abbrev pub Further : Result Bool PlacedCause → Cursor → Cursor → Type 0
 Further (Ok true) old new = (new.text.now ≡ old.text.now) × (old.at < new.at)
 Further (Ok false) old new = Onward old new
 Further (Err f) old new = Unit {0}
+
+-- a byte has been read, or nothing
+abbrev pub OneOver : Result Bool PlacedCause → Cursor → Cursor → Type 0
+OneOver (Ok true) old new = (new.text.now ≡ old.text.now) × (old.at < new.at)
+OneOver (Ok false) old new = Stayed old new
+OneOver (Err f) old new = Unit {0}
 
 -- a word has been read; or the text differs from it at a place
 abbrev pub WordTaken : Cursor → List ℕ → Result (Unit {0}) PlacedCause → Cursor → Type 0
@@ -144,9 +151,39 @@ abbrev pub left_join : Left → Option Join
 left_join None = None
 left_join (Some (a, j)) = Some (join_of j)
 
--- the open groups, the innermost first
+-- the open groups, the innermost first, for all of which there is room
 abbrev pub GroupsAre : List Left → Kept (Option Join) → Type 0
-GroupsAre ls s = (s.waiting ≡ map left_join ls) × (length s.lent ≡ 16)
+GroupsAre ls s = (s.waiting ≡ map left_join ls) × (length s.lent ≡ 16) × (length ls ≤ 16)
+
+-- a suffix has been read and its parts made, or none stands there
+abbrev pub MarkMade : Cursor → Made → Cursor → Made → Type 0
+MarkMade old before new made = (m : Option Mark) × MarkRead old m new × MarkParts m before made
+  where
+    MarkParts : Option Mark → Made → Made → Type 0
+    MarkParts None before made = made ≡ before
+    MarkParts (Some m) before made = MakesMore before (mark_parts m) made
+
+-- the part that joins a member to those before it is made, where there are some
+abbrev pub JoinMade : Made → Option Join → Made → Type 0
+JoinMade old None new = new ≡ old
+JoinMade old (Some j) new = MakesMore old (join_part j ∷ []) new
+
+-- 124 '|', 44 ','
+abbrev pub SeparatorIs : List ℕ → Option Join → Type 0
+SeparatorIs bytes None = Past (λ b. b == 124) bytes × Past (λ b. b == 44) bytes
+SeparatorIs bytes (Some join.Choice) = (rest : List ℕ) × (bytes ≡ 124 ∷ rest)
+SeparatorIs bytes (Some join.Sequence) = (rest : List ℕ) × (bytes ≡ 44 ∷ rest)
+SeparatorIs bytes (Some join.Interleave) = ⊥
+
+-- the members of a list are joined alike
+abbrev pub join_rank : Join → ℕ
+join_rank join.Choice = 2
+join_rank join.Sequence = 3
+join_rank join.Interleave = 4
+
+abbrev pub may_join : Option Join → Join → Bool
+may_join None j = true
+may_join (Some i) j = join_rank i == join_rank j
 
 -- a `(` has been read, or none stands there
 abbrev pub GroupOpened : List (List ℕ) → List ℕ → List Declaration → List ℕ → List Left → Left → Bool → Result Bool PlacedCause → Cursor → Elements → Kept (Option Join) → Type 0
@@ -163,6 +200,31 @@ GoneOn ks bytes ds n (Ok true) c e m s =
 GoneOn ks bytes ds n (Ok false) c e m s =
     (k : Content) × (σ : Spot) × ReadTo ks bytes σ false c e × Closes ds n k σ (rest_of c) × PartsFor (content_parts k) e m
 GoneOn ks bytes ds n (Err f) c e m s = Fails dtd ks bytes ds f
+
+-- 35 '#' is not next where it may stand, which is first of all
+abbrev pub HashPast : List Left → Left → List ℕ → Type 0
+HashPast [] None rest = Past (λ b. b == 35) rest
+HashPast [] (Some l) rest = Unit {0}
+HashPast (k ∷ o) l rest = Unit {0}
+
+-- a member is wanted
+pub record MemberWanted (ks : List (List ℕ)) (bytes : List ℕ) (ds : List Declaration) (n : List ℕ) (c : Cursor) (e : Elements) (m : Made) (s : Kept (Option Join)) : Type 0 where
+  pub outer : List Left
+  pub left : Left
+  pub spaced : Bool
+  pub read : ReadTo ks bytes (kids ds n (want outer left)) spaced c e
+  pub blanks : Past is_blank (rest_of c)
+  pub hash : HashPast outer left (rest_of c)
+  pub groups : GroupsAre (left ∷ outer) s
+  pub parts : PartsFor (state_parts (want outer left)) e m
+
+-- a group has begun, or a member has been read and another is wanted, or the outermost group has ended
+abbrev pub MemberRead : List (List ℕ) → List ℕ → List Declaration → List ℕ → Result Bool PlacedCause → Cursor → Elements → Made → Kept (Option Join) → Type 0
+MemberRead ks bytes ds n (Ok true) c e m s =
+    (o : List Left) × (l : Left) × ReadTo ks bytes (kids ds n (want o l)) false c e × ((rest : List ℕ) → HashPast o l rest)
+    × GroupsAre (l ∷ o) s × PartsFor (state_parts (want o l)) e m
+MemberRead ks bytes ds n (Ok false) c e m s = GoneOn ks bytes ds n (Ok false) c e m s
+MemberRead ks bytes ds n (Err f) c e m s = Fails dtd ks bytes ds f
 
 -- the declaration has ended
 abbrev pub DeclarationEnded : List (List ℕ) → List ℕ → List Declaration → Declaration → Result (Unit {0}) PlacedCause → Cursor → Elements → Made → Type 0

@@ -9,7 +9,7 @@ ghost use Rattle.grammar.specs.Machine.Spot.{kids};
 ghost use Rattle.grammar.specs.Words.{Words, is_plain, is_member};
 ghost use Rattle.text.specs.Contents.{made_of};
 ghost use Rattle.text.specs.Cursors.{rest_of};
-ghost use Rattle.text.specs.Declaring.{ReadTo, PartsFor, state_parts, Ended, GroupsAre, left_join, GroupOpened, GoneOn, SuffixPast};
+ghost use Rattle.text.specs.Declaring.{ReadTo, PartsFor, state_parts, Ended, GroupsAre, left_join, GroupOpened, GoneOn, SuffixPast, Further, OneOver, MemberWanted, MemberRead, SeparatorIs, may_join, JoinMade, MarkMade};
 ghost use Rattle.text.specs.Fronts.{Past, is_mark};
 ghost use Rattle.text.specs.Progress.{NamesGrow};
 ghost use Rattle.text.specs.declared.elements.Elements.{Elements};
@@ -27,16 +27,58 @@ pub const MOST_GROUPS: usize = 16;
 
 // Reads the `(` of a group within another, and says whether one stands here.
 fn opens(cursor: &mut Cursor<'_>, groups: &mut Stack<'_, Option<Join>>) -> Result<bool, PlacedCause>
-    ensures { (ks : List (List ℕ)) (bytes : List ℕ) (ds : List Declaration) (n : List ℕ) (o : List Left) (l : Left) (h : Bool) (e : Elements) → ReadTo ks bytes (kids ds n (want o l)) h cursor.old e → GroupsAre (l ∷ o) groups.old → GroupOpened ks bytes ds n o l h result cursor.new e groups.new }
+    ensures opened { (ks : List (List ℕ)) (bytes : List ℕ) (ds : List Declaration) (n : List ℕ) (o : List Left) (l : Left) (h : Bool) (e : Elements) → ReadTo ks bytes (kids ds n (want o l)) h cursor.old e → GroupsAre (l ∷ o) groups.old → GroupOpened ks bytes ds n o l h result cursor.new e groups.new }
+    ensures over { OneOver result cursor.old cursor.new }
 {
     let [b'(', ..] = cursor.rest() else {
         return Ok(false);
     };
-    if groups.push(None).is_err() {
+    if groups.len() >= MOST_GROUPS {
         return Err(TextCause::TooDeep.at(cursor.at));
     }
     cursor.advance(1);
+    // there is room
+    let _ = groups.push(None);
     Ok(true)
+}
+
+// What separates two members, where it is next.
+fn separator(text: &[u8]) -> Option<Join>
+    ensures { SeparatorIs text.now result }
+{
+    match text {
+        [b'|', ..] => Some(Join::Choice),
+        [b',', ..] => Some(Join::Sequence),
+        _ => None,
+    }
+}
+
+// Whether a list may go on with this join.
+fn may_go_on(before: Option<Join>, join: Join) -> bool
+    ensures { result ≡ may_join before join }
+{
+    match before {
+        Some(other) => other == join,
+        None => true,
+    }
+}
+
+// Makes the join of what stands before a member with it.
+fn joined(made: &mut Content, before: Option<Join>)
+    ensures { JoinMade made.old before made.new }
+{
+    if let Some(join) = before {
+        made.join(join);
+    }
+}
+
+// Reads a suffix, where one is next.
+fn suffixed(cursor: &mut Cursor<'_>, made: &mut Content)
+    ensures { MarkMade cursor.old made.old cursor.new made.new }
+{
+    if let Some(mark) = cursor.mark() {
+        made.mark(mark);
+    }
 }
 
 // Reads what separates two members, which is the same throughout a group.
@@ -46,18 +88,16 @@ fn separated(
     groups: &mut Stack<'_, Option<Join>>,
     before: Option<Join>,
 ) -> Result<bool, PlacedCause>
-    ensures { (ks : List (List ℕ)) (bytes : List ℕ) (ds : List Declaration) (n : List ℕ) (o : List Left) (l : Left) (w : Words) (h : Bool) (e : Elements) → ReadTo ks bytes (kids ds n (got o l w)) h cursor.old e → Past is_blank (rest_of cursor.old) → Past (λ b. b == 41) (rest_of cursor.old) → SuffixPast h (rest_of cursor.old) → is_member w ≡ true → before ≡ left_join l → GroupsAre o groups.old → length o < 16 → PartsFor (state_parts (got o l w)) e made.old → GoneOn ks bytes ds n result cursor.new e made.new groups.new }
+    ensures read { (ks : List (List ℕ)) (bytes : List ℕ) (ds : List Declaration) (n : List ℕ) (o : List Left) (l : Left) (w : Words) (h : Bool) (e : Elements) → ReadTo ks bytes (kids ds n (got o l w)) h cursor.old e → Past is_blank (rest_of cursor.old) → Past (λ b. b == 41) (rest_of cursor.old) → (is_plain w ≡ true → SuffixPast h (rest_of cursor.old)) → is_member w ≡ true → before ≡ left_join l → GroupsAre o groups.old → length o < 16 → PartsFor (state_parts (got o l w)) e made.old → GoneOn ks bytes ds n result cursor.new e made.new groups.new }
+    ensures further { Further result cursor.old cursor.new }
 {
-    let join = match cursor.rest() {
-        [b'|', ..] => Join::Choice,
-        [b',', ..] => Join::Sequence,
-        _ => return Err(misplaced(cursor)),
+    let Some(join) = separator(cursor.rest()) else {
+        return Err(misplaced(cursor));
     };
-    match before {
-        Some(other) if other != join => return Err(misplaced(cursor)),
-        Some(_) => made.join(join),
-        None => {}
+    if !may_go_on(before, join) {
+        return Err(misplaced(cursor));
     }
+    joined(made, before);
     cursor.advance(1);
     // there is room, since one was taken away
     let _ = groups.push(Some(join));
@@ -72,12 +112,11 @@ fn goes_on(
     made: &mut Content,
     groups: &mut Stack<'_, Option<Join>>,
 ) -> Result<bool, PlacedCause>
-    ensures { (ks : List (List ℕ)) (bytes : List ℕ) (ds : List Declaration) (n : List ℕ) (o : List Left) (l : Left) (w : Words) (e : Elements) → ReadTo ks bytes (kids ds n (got o l w)) false cursor.old e → is_plain w ≡ true → GroupsAre (l ∷ o) groups.old → PartsFor (state_parts (got o l w)) e made.old → GoneOn ks bytes ds n result cursor.new e made.new groups.new }
+    ensures read { (ks : List (List ℕ)) (bytes : List ℕ) (ds : List Declaration) (n : List ℕ) (o : List Left) (l : Left) (w : Words) (e : Elements) → ReadTo ks bytes (kids ds n (got o l w)) false cursor.old e → is_plain w ≡ true → GroupsAre (l ∷ o) groups.old → PartsFor (state_parts (got o l w)) e made.old → GoneOn ks bytes ds n result cursor.new e made.new groups.new }
+    ensures further { Further result cursor.old cursor.new }
 {
     loop {
-        if let Some(mark) = cursor.mark() {
-            made.mark(mark);
-        }
+        suffixed(cursor, made);
         let Some(before) = groups.pop() else {
             return Ok(false);
         };
@@ -86,10 +125,27 @@ fn goes_on(
             return separated(cursor, made, groups, before);
         };
         cursor.advance(1);
-        if let Some(join) = before {
-            made.join(join);
-        }
+        joined(made, before);
     }
+}
+
+// Reads the `(` of a group, or a name and what follows it. Says whether a member follows.
+fn member(
+    cursor: &mut Cursor<'_>,
+    elements: &mut Elements,
+    made: &mut Content,
+    groups: &mut Stack<'_, Option<Join>>,
+) -> Result<bool, PlacedCause>
+    ensures read { (ks : List (List ℕ)) (bytes : List ℕ) (ds : List Declaration) (n : List ℕ) → MemberWanted ks bytes ds n cursor.old elements.old made.old groups.old → MemberRead ks bytes ds n result cursor.new elements.new made.new groups.new }
+    ensures grow { NamesGrow elements.old elements.new }
+    ensures further { Further result cursor.old cursor.new }
+{
+    if opens(cursor, groups)? {
+        return Ok(true);
+    }
+    let symbol = child(cursor, elements)?;
+    made.symbol(symbol);
+    goes_on(cursor, made, groups)
 }
 
 /// Reads the members of the outermost group and of those within, to its end and its suffix.
@@ -106,14 +162,8 @@ pub(super) fn children(
     let mut groups = Stack::new(&mut joins);
     // there is room, so nothing comes back
     let _ = groups.push(None);
-    loop {
-        if !opens(cursor, &mut groups)? {
-            let symbol = child(cursor, elements)?;
-            made.symbol(symbol);
-            if !goes_on(cursor, made, &mut groups)? {
-                return Ok(());
-            }
-        }
+    while member(cursor, elements, made, &mut groups)? {
         cursor.skip_blanks();
     }
+    Ok(())
 }
