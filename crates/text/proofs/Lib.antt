@@ -5,6 +5,7 @@ pub mod CursorLemmas
 pub mod Comments
 pub mod Walking
 pub mod Children
+pub mod Opening
 pub mod Quiet
 pub mod Fronted
 pub mod Groups
