@@ -2,6 +2,8 @@ pub mod Runs
 pub mod Words
 pub mod Bits
 pub mod CursorLemmas
+pub mod ContentLemmas
+pub mod ElementLemmas
 pub mod Comments
 pub mod Walking
 pub mod Children

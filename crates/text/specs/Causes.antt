@@ -12,6 +12,8 @@ use Rattle.grammar.specs.Faults.Cause.{kind, again, beyond}
 use Rattle.text.specs.declared.fault.TextCause.{TextCause}
 use Rattle.text.specs.declared.fault.TextCause.TheVariants.{NotDeclarations, AnyContent, DeclaredAgain, LongName, TooManyNames, TooManyDeclarations, TooDeep, TooManyParts}
 use Rattle.text.specs.declared.fault.TextFault.{TextFault}
+use Rattle.names.specs.declared.names.NameFault.{NameFault}
+use Rattle.names.specs.declared.names.NameFault.TheVariants.{TooLong, TooMany}
 
 -- which fault a cause is
 abbrev pub cause_of : TextCause → Cause
@@ -23,6 +25,11 @@ cause_of TooManyNames = beyond
 cause_of TooManyDeclarations = beyond
 cause_of TooDeep = beyond
 cause_of TooManyParts = beyond
+
+-- why a name is not taken
+abbrev pub name_cause : NameFault → TextCause
+name_cause TooLong = LongName
+name_cause TooMany = TooManyNames
 
 -- the number of a cause: of texts of element declarations 14
 abbrev pub cause_number : TextCause → ℕ

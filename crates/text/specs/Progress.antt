@@ -5,6 +5,8 @@ use Rattle.names.specs.Numbering.{symbol_in, is_known, known_after}
 use Rattle.grammar.specs.Notations.{Notation}
 use Rattle.grammar.specs.Notations.Notation.{dtd}
 use Rattle.grammar.specs.Declarations.{Declaration, Sign, all_signs}
+use Rattle.grammar.specs.Declarations.Sign.{element, declared, inner}
+use Rattle.grammar.specs.Words.Sign.{names}
 use Rattle.grammar.specs.Faults.{Cause, Gives, Repeats, Beyond, Faultless, names_among, begun, is_declared}
 use Rattle.grammar.specs.Faults.Cause.{kind, again, beyond}
 use Rattle.grammar.specs.Machine.{Spot, spelled}
@@ -14,6 +16,13 @@ use Rattle.text.specs.declared.cursor.Cursor.{Cursor}
 use Rattle.text.specs.declared.elements.Elements.{Elements}
 use Rattle.text.specs.declared.fault.TextCause.{TextCause}
 use Rattle.text.specs.declared.fault.PlacedCause.{PlacedCause}
+
+-- a sign that is no name and with which no declaration begins
+abbrev pub is_plain_sign : Sign → Bool
+is_plain_sign element = false
+is_plain_sign (declared n) = false
+is_plain_sign (inner (names n)) = false
+is_plain_sign s = true
 
 -- of the known names, exactly those that the signs declare have their symbol in the set, and nothing else is in it
 abbrev pub DeclaredAre : List (List ℕ) → List Sign → ℕ → Type 0

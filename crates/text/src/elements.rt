@@ -6,6 +6,7 @@ ghost use Rattle.grammar.specs.Notations.Notation.{dtd};
 ghost use Rattle.grammar.specs.Declarations.{Sign};
 ghost use Rattle.grammar.specs.Declarations.Sign.{element, declared as declared_sign, inner};
 ghost use Rattle.grammar.specs.Words.Sign.{names as name_sign};
+ghost use Rattle.text.specs.Causes.{name_cause};
 ghost use Rattle.text.specs.Progress.{ElementsAre, NamesGrow, TakenIn, SymbolIs};
 
 use crate::fault::TextCause;
@@ -16,6 +17,8 @@ use parts::symbols::SymbolSet;
 pub const MOST_DECLARATIONS: u32 = 32;
 
 impl From<NameFault> for TextCause {
+    ghost from_gives = { λ fault cause. cause ≡ name_cause fault };
+
     fn from(fault: NameFault) -> TextCause {
         match fault {
             NameFault::TooLong => TextCause::LongName,
