@@ -73,16 +73,24 @@ bytes_of mark.Any = refl
 past_member : (ks : List (List ℕ)) (bytes : List ℕ) (ds : List Declaration) (n : List ℕ) (old new : Cursor) (e : Elements) (first last : Made) (s : Kept (Option Join))
     → AtMember ks bytes ds n old e first s → MarkMade old first new last → PastMember ks bytes ds n new e last s
 past_member ks bytes ds n old new e first last s (o, l, w, r, plain, g, parts) (None, (stayed, past), made) = (
-  o, l, w,
+  o,
+  l,
+  w,
   record { cursor = stays_at ks bytes (kids ds n (got o l w)) false old new r.cursor stayed; elements = r.elements },
-  plain_member w plain, (λ _. past), g,
+  plain_member w plain,
+  (λ _. past),
+  g,
   (λ names. made ∙ parts names),
 )
 past_member ks bytes ds n old new e first last s (o, l, w, r, plain, g, parts) (Some m, moved, made) = (
-  o, l, marked w (suffix_of m),
+  o,
+  l,
+  marked w (suffix_of m),
   over_quiet ks bytes (kids ds n (got o l w)) false (inner (suffix (suffix_of m))) (kids ds n (got o l (marked w (suffix_of m)))) old new e r tt refl
-  (ap (λ t. kids_of ds n (cond t (Some (got o l (marked w (suffix_of m)))) None)) plain) tt (subst (λ g. Moved old g new) (bytes_of m) moved) ((λ x. x), (λ x. x)),
-  refl, (λ no_more. absurd (false≢true no_more)), g,
+      (ap (λ t. kids_of ds n (cond t (Some (got o l (marked w (suffix_of m)))) None)) plain) tt (subst (λ g. Moved old g new) (bytes_of m) moved) ((λ x. x), (λ x. x)),
+  refl,
+  (λ no_more. absurd (false≢true no_more)),
+  g,
   parts_more (state_parts (got o l w)) (state_parts (got o l (marked w (suffix_of m)))) (mark_parts m) e first last parts made (λ ks. member_marked ks o l w m),
 )
 
@@ -103,7 +111,7 @@ past_group ks bytes ds n old new e first last s (v, r, g, parts) (Some m, moved,
     children (marked (group v) (suffix_of m)),
     full ds n (children (marked (group v) (suffix_of m))),
     over_quiet ks bytes (grouped ds n v) false (inner (suffix (suffix_of m))) (full ds n (children (marked (group v) (suffix_of m)))) old new e r tt refl refl tt
-    (subst (λ g. Moved old g new) (bytes_of m) moved) ((λ x. x), (λ x. x)),
+        (subst (λ g. Moved old g new) (bytes_of m) moved) ((λ x. x), (λ x. x)),
     (refl, refl, refl),
     parts_more (group_parts v) (content_parts (children (marked (group v) (suffix_of m)))) (mark_parts m) e first last parts made (λ ks. marked_parts m (tree_of ks v)),
   ),
@@ -176,9 +184,12 @@ closed ks bytes ds n [] l w h old new e first last s r g room parts moved made =
   parts_joined (state_parts (got [] l w)) (group_parts (put l w)) l e first last parts made (λ ks. more_put ks [] l w),
 )
 closed ks bytes ds n (k ∷ o) l w h old new e first last s r g room parts moved made = inl (
-  o, k, group (put l w),
+  o,
+  k,
+  group (put l w),
   over_quiet ks bytes (kids ds n (got (k ∷ o) l w)) h (inner closes) (kids ds n (got o k (group (put l w)))) old new e r tt (may_close ds n (k ∷ o) l w h) refl tt moved ((λ x. x), (λ x. x)),
-  refl, g,
+  refl,
+  g,
   parts_joined (state_parts (got (k ∷ o) l w)) (state_parts (got o k (group (put l w)))) l e first last parts made (λ ks. group_closed ks k o l w),
 )
 

@@ -145,6 +145,6 @@ pub group_opened : (ks : List (List ℕ)) (bytes : List ℕ) (ds : List Declarat
     → ReadTo ks bytes (kids ds n (want (l ∷ o) None)) false new e × GroupsAre (None ∷ l ∷ o) t
 group_opened ks bytes ds n o l h e old new s t rest count pushed r g same some is counted room m push = (
   over_quiet ks bytes (kids ds n (want o l)) h (inner opens) (kids ds n (want (l ∷ o) None)) old new e r tt (may_open ds n o l h) refl tt
-  (one_read old new rest 40 same some is m) (not_deep ks ds n o l (omega (arith, waiting_count l o s g))),
+      (one_read old new rest 40 same some is m) (not_deep ks ds n o l (omega (arith, waiting_count l o s g))),
   group_pushed None (l ∷ o) s t pushed g (omega (arith, waiting_count l o s g)) push,
 )

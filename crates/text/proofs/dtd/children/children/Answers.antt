@@ -15,10 +15,10 @@ pub loop-cursor-preserved : goal.loop-cursor-preserved
 loop-cursor-preserved c = (
   grow_then c.args.elements.now c.loop-cursor.elements c.member.new.elements c.loop-cursor.invariant.0 c.member.ensures.grow,
   λ ks bytes ds n h r blank hash made.
-  next_wanted ks bytes ds n c.skip_blanks.result c.member.new.cursor c.skip_blanks.new.self c.member.new.elements c.member.new.made c.member.new.groups
-  (subst (λ t. MemberRead ks bytes ds n (Ok t) c.member.new.cursor c.member.new.elements c.member.new.made c.member.new.groups) c.if-branch.true
-  (c.in_ok-member.ensures.read ks bytes ds n (c.loop-cursor.invariant.1 ks bytes ds n h r blank hash made)))
-  c.skip_blanks.ensures,
+      next_wanted ks bytes ds n c.skip_blanks.result c.member.new.cursor c.skip_blanks.new.self c.member.new.elements c.member.new.made c.member.new.groups
+      (subst (λ t. MemberRead ks bytes ds n (Ok t) c.member.new.cursor c.member.new.elements c.member.new.made c.member.new.groups) c.if-branch.true
+      (c.in_ok-member.ensures.read ks bytes ds n (c.loop-cursor.invariant.1 ks bytes ds n h r blank hash made)))
+      c.skip_blanks.ensures,
 )
 
 pub returns-clause-ended : goal.returns-clause-ended
