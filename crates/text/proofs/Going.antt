@@ -1,5 +1,5 @@
 -- What is read of the groups that end behind a member, and of the outermost one. Assumes nothing.
-use Rattle.std.proofs.Common.{◌≡◌, ℕ, suc, ◌+◌, ◌<◌, ◌≤◌, ◌⊎◌, inl, inr, Bool, true, false, cond, ◌==◌, List, [], ◌∷◌, ◌++◌, length, get_or, take, drop, map, Some, None, Option, Ok, Err, Result, sym, refl, ap, ◌∙◌, subst, arith}
+use Rattle.std.proofs.Common.{◌≡◌, ℕ, ◌<◌, ◌≤◌, ◌⊎◌, inl, inr, Bool, true, false, cond, List, [], ◌∷◌, length, get_or, take, drop, Some, None, Option, Ok, sym, refl, ap, ◌∙◌, subst, arith}
 use Rattle.std.proofs.lemmas.Bool.{false≢true}
 use Rattle.parts.specs.Stacks.{Kept, Popped}
 use Rattle.grammar.specs.Bytes.{is_blank}
@@ -8,18 +8,18 @@ use Rattle.grammar.specs.Words.{Words, is_plain, is_member}
 use Rattle.grammar.specs.Words.Words.{name, nothing, group, marked, joined}
 use Rattle.grammar.specs.Words.Sign.{closes, suffix}
 use Rattle.grammar.specs.Lists.{Left, put}
-use Rattle.grammar.specs.Lists.State.{want, got}
-use Rattle.grammar.specs.Declarations.{Content, Declaration, Sign, sign_bytes}
+use Rattle.grammar.specs.Lists.State.{got}
+use Rattle.grammar.specs.Declarations.{Declaration, sign_bytes}
 use Rattle.grammar.specs.Declarations.Content.{children}
 use Rattle.grammar.specs.Declarations.Sign.{inner}
-use Rattle.grammar.specs.Machine.{Spot, go, kids_of, refused, spelled}
+use Rattle.grammar.specs.Machine.{kids_of, refused}
 use Rattle.grammar.specs.Machine.Spot.{kids, grouped, full}
-use Rattle.grammar.specs.Meaning.{tree_of, suffixed}
+use Rattle.grammar.specs.Meaning.{tree_of}
 use Rattle.models.specs.Written.{sheet}
-use Rattle.text.specs.Contents.{Made, made_of, MakesMore, mark_parts}
-use Rattle.text.specs.Cursors.{rest_of, Moved, Stayed, BlanksRead, MarkRead}
-use Rattle.text.specs.Declaring.{ReadTo, GroupsAre, GoneOn, SuffixPast, MarkMade, JoinMade, PartsFor, Onward, left_join, state_parts, content_parts, Closes}
-use Rattle.text.specs.Fronts.{Past, is_mark, mark_byte, mark_bytes}
+use Rattle.text.specs.Contents.{Made, mark_parts}
+use Rattle.text.specs.Cursors.{rest_of, Moved, BlanksRead}
+use Rattle.text.specs.Declaring.{ReadTo, GroupsAre, GoneOn, SuffixPast, MarkMade, JoinMade, PartsFor, Onward, left_join, state_parts, content_parts}
+use Rattle.text.specs.Fronts.{Past, is_mark, mark_bytes}
 use Rattle.text.specs.declared.cursor.Cursor.{Cursor}
 use Rattle.text.specs.declared.elements.Elements.{Elements}
 use Rattle.text.specs.declared.join.Join.{Join}
@@ -28,7 +28,7 @@ use Rattle.text.specs.declared.mark.Mark.TheVariants as mark
 use Rattle.text.proofs.Walking.{stays_at, over_blanks}
 use Rattle.text.proofs.Quiet.{over_quiet}
 use Rattle.text.proofs.Fronted.{one_read}
-use Rattle.text.proofs.Made.{suffix_of, joint, more_put, group_closed, marked_parts, member_marked, parts_more, parts_same, parts_joined}
+use Rattle.text.proofs.Made.{suffix_of, more_put, group_closed, marked_parts, member_marked, parts_more, parts_joined}
 
 -- a member has been read, or the outermost group
 abbrev pub AtMember : List (List ℕ) → List ℕ → List Declaration → List ℕ → Cursor → Elements → Made → Kept (Option Join) → Type 0

@@ -1,7 +1,7 @@
 -- Groups within content: how many are open, and what is read at their ends. Assumes nothing.
-use Rattle.std.proofs.Common.{◌≡◌, ℕ, suc, ◌+◌, ◌-◌, ◌<◌, ◌≤◌, Bool, true, false, cond, List, [], ◌∷◌, ◌++◌, length, get_or, take, drop, map, Some, None, Option, Ok, Err, Result, sym, refl, ap, ◌∙◌, subst, arith}
+use Rattle.std.proofs.Common.{◌≡◌, ℕ, suc, ◌+◌, ◌-◌, ◌<◌, ◌≤◌, Bool, true, false, cond, List, [], ◌∷◌, ◌++◌, length, get_or, take, drop, Some, None, Option, Ok, Err, Result, sym, refl, ap, ◌∙◌, subst, arith}
 use Rattle.std.proofs.lemmas.List.{length-set, length-map}
-use Rattle.parts.specs.Stacks.{Kept, depth, Pushed, Popped}
+use Rattle.parts.specs.Stacks.{Kept, depth, Pushed}
 use Rattle.grammar.specs.Notations.Notation.{dtd}
 use Rattle.grammar.specs.Faults.{Faultless}
 use Rattle.grammar.specs.Machine.{refused}
@@ -20,7 +20,7 @@ use Rattle.grammar.specs.Words.Words.{name, nothing, group, marked, joined}
 use Rattle.grammar.specs.Words.Sign.{names, empties, opens, closes, suffix, separator}
 use Rattle.grammar.specs.Words.Mark.{any}
 use Rattle.grammar.specs.Lists.{Left, left_signs, outer_signs}
-use Rattle.grammar.specs.Lists.State.{want, got}
+use Rattle.grammar.specs.Lists.State.{want}
 use Rattle.grammar.specs.Declarations.{Content, Declaration, Sign, inners, alternatives, content_signs, declaration_signs, all_signs}
 use Rattle.grammar.specs.Declarations.Content.{none, whatever, text, children}
 use Rattle.grammar.specs.Declarations.Sign.{element, declared, empty_word, any_word, pcdata_word, inner, ends}

@@ -1,23 +1,22 @@
 -- The parts that are made of what has been read. Assumes nothing.
-use Rattle.std.proofs.Common.{◌≡◌, ℕ, Bool, true, false, List, [], ◌∷◌, ◌++◌, map, Some, None, Option, sym, refl, ap, ◌∙◌, subst}
+use Rattle.std.proofs.Common.{◌≡◌, ℕ, true, List, [], ◌∷◌, ◌++◌, Some, None, sym, ap, ◌∙◌}
 use Rattle.std.proofs.lemmas.List.{append_assoc, append-nil, map-append}
 use Rattle.parts.specs.declared.part.Part.{Part}
 use Rattle.models.specs.Trees.{Tree}
-use Rattle.models.specs.Trees.Tree.{empty, symbol, choice, sequence, interleave, count}
+use Rattle.models.specs.Trees.Tree.{empty, choice, sequence, interleave, count}
 use Rattle.models.specs.Written.{sheet, subtrees, part_of}
 use Rattle.names.specs.Numbering.{known_after, symbol_in, is_known}
 use Rattle.names.proofs.Numbering.{met_in_turn, symbol_stays}
 use Rattle.grammar.specs.Words.{Words, Join as Spoken, Mark as Suffix}
-use Rattle.grammar.specs.Words.Words.{name, group, marked, joined}
+use Rattle.grammar.specs.Words.Words.{group, marked}
 use Rattle.grammar.specs.Words.Join.{alt, next, both}
 use Rattle.grammar.specs.Words.Mark.{optional, repeated, any}
 use Rattle.grammar.specs.Lists.{Left, put}
-use Rattle.grammar.specs.Lists.State.{want, got}
+use Rattle.grammar.specs.Lists.State.{got}
 use Rattle.grammar.specs.Meaning.{tree_of, suffixed, joining}
 use Rattle.text.specs.Contents.{Made, made_of, MakesMore, symbol_part, join_part, mark_parts}
 use Rattle.text.specs.Declaring.{PartsFor, JoinMade, left_parts, outer_parts, state_parts, join_of, left_join}
 use Rattle.text.specs.declared.elements.Elements.{Elements}
-use Rattle.text.specs.declared.join.Join.{Join}
 use Rattle.text.specs.declared.mark.Mark.{Mark}
 use Rattle.text.specs.declared.mark.Mark.TheVariants as mark
 

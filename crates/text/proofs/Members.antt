@@ -1,42 +1,37 @@
 -- What stands behind a member: a suffix, the end of its group, or what separates it from the next. Assumes nothing.
-use Rattle.std.proofs.Common.{◌≡◌, ℕ, suc, ◌+◌, ◌<◌, ◌≤◌, ◌⊎◌, inl, inr, Bool, true, false, cond, ◌==◌, ◌||◌, List, [], ◌∷◌, ◌++◌, length, get_or, take, drop, map, Some, None, Option, Ok, Err, Result, sym, refl, ap, ◌∙◌, subst, arith}
-use Rattle.std.proofs.lemmas.Bool.{false≢true, cases_Bool}
+use Rattle.std.proofs.Common.{◌≡◌, ℕ, ◌<◌, ◌≤◌, ◌⊎◌, inl, inr, Bool, true, false, cond, ◌==◌, List, [], ◌∷◌, length, get_or, take, Some, None, Option, Ok, Result, sym, refl, ap, ◌∙◌, subst, arith}
+use Rattle.std.proofs.lemmas.Bool.{false≢true}
 use Rattle.std.proofs.lemmas.Bool.Decides.{nat_tests}
-use Rattle.parts.specs.Stacks.{Kept, Pushed, Popped}
+use Rattle.parts.specs.Stacks.{Kept, Pushed}
 use Rattle.grammar.specs.Bytes.{is_blank, begins_name}
 use Rattle.grammar.specs.Notations.Notation.{dtd}
 use Rattle.grammar.specs.Words.{Words, Join as Spoken, is_plain, is_member, goes_on, join_number}
 use Rattle.grammar.specs.Words.Words.{name, nothing, group, marked, joined}
 use Rattle.grammar.specs.Words.Join.{alt, next, both}
 use Rattle.grammar.specs.Words.Mark.{optional, repeated, any}
-use Rattle.grammar.specs.Words.Sign.{names, empties, opens, closes, suffix, separator}
-use Rattle.grammar.specs.Lists.{Left, State, put, step}
+use Rattle.grammar.specs.Words.Sign.{opens, closes, suffix, separator}
+use Rattle.grammar.specs.Lists.{Left, put}
 use Rattle.grammar.specs.Lists.State.{want, got}
-use Rattle.grammar.specs.Declarations.{Content, Declaration, Sign, sign_bytes}
-use Rattle.grammar.specs.Declarations.Content.{none, whatever, text, children}
+use Rattle.grammar.specs.Declarations.{Declaration, Sign, sign_bytes}
 use Rattle.grammar.specs.Declarations.Sign.{inner, ends}
-use Rattle.grammar.specs.Machine.{Spot, Phase, go, into, signed, sign_at, feed_at, lettered, angled, hashed, kids_of, refused, is_suffix, spelled, SignFits}
-use Rattle.grammar.specs.Machine.Spot.{kids, grouped, full}
-use Rattle.grammar.specs.Meaning.{tree_of}
-use Rattle.models.specs.Written.{sheet}
-use Rattle.text.specs.Contents.{Made, made_of, MakesMore, mark_parts}
-use Rattle.text.specs.Cursors.{rest_of, Moved, Stayed, BlanksRead, MarkRead}
-use Rattle.text.specs.Declaring.{ReadTo, GroupsAre, GoneOn, SuffixPast, MarkMade, JoinMade, SeparatorIs, may_join, PartsFor, left_join, join_of, join_rank, state_parts, content_parts, Closes}
-use Rattle.text.specs.Fronts.{Past, is_mark, mark_byte, mark_bytes}
+use Rattle.grammar.specs.Machine.{Spot, Phase, go, into, signed, feed_at, lettered, angled, hashed, kids_of, refused, SignFits}
+use Rattle.grammar.specs.Machine.Spot.{kids}
+use Rattle.text.specs.Contents.{Made}
+use Rattle.text.specs.Cursors.{rest_of, Moved}
+use Rattle.text.specs.Declaring.{ReadTo, GroupsAre, GoneOn, SuffixPast, JoinMade, SeparatorIs, may_join, PartsFor, left_join, join_of, join_rank, state_parts}
+use Rattle.text.specs.Fronts.{Past, is_mark}
 use Rattle.text.specs.Progress.{Fails}
 use Rattle.text.specs.declared.cursor.Cursor.{Cursor}
 use Rattle.text.specs.declared.elements.Elements.{Elements}
 use Rattle.text.specs.declared.fault.TextCause.TheVariants.{NotDeclarations}
-use Rattle.text.specs.declared.fault.PlacedCause.{PlacedCause}
 use Rattle.text.specs.declared.join.Join.{Join}
 use Rattle.text.specs.declared.join.Join.TheVariants as join
 use Rattle.text.specs.declared.mark.Mark.{Mark}
 use Rattle.text.specs.declared.mark.Mark.TheVariants as mark
-use Rattle.text.proofs.Walking.{placed, stays_at, over_blanks, Refuses, byte_fails}
+use Rattle.text.proofs.Walking.{placed, Refuses, byte_fails}
 use Rattle.text.proofs.Quiet.{over_quiet}
-use Rattle.text.proofs.Fronted.{one_read}
 use Rattle.text.proofs.Groups.{group_pushed}
-use Rattle.text.proofs.Made.{suffix_of, joint, more_put, group_closed, marked_parts, member_marked, parts_more, parts_same, parts_joined}
+use Rattle.text.proofs.Made.{suffix_of, more_put, parts_joined}
 
 -- what a byte that is no separator is, behind a member
 pub none_by : {X : Type 0} (t : Bool) (x y : Option X) → (t ≡ true → x ≡ None) → (t ≡ false → y ≡ None) → cond t x y ≡ None

@@ -16,7 +16,6 @@ use Rattle.grammar.specs.Words.Join.{alt, next, both}
 use Rattle.grammar.specs.Words.Mark.{optional, repeated, any}
 use Rattle.grammar.specs.Words.Sign.{names, opens, closes, suffix, separator}
 use Rattle.grammar.specs.Declarations.{Content, Declaration, Sign, words, all_names}
-use Rattle.grammar.specs.Declarations.Content.{text}
 use Rattle.grammar.specs.Declarations.Sign.{element, declared, inner, ends}
 use Rattle.std.specs.Str.{bytes_eq}
 use Rattle.names.specs.Numbering.{known_after}

@@ -11,7 +11,7 @@ use Rattle.grammar.proofs.Steps.{spelled_on}
 use Rattle.names.specs.Numbering.{known_after}
 use Rattle.text.specs.Cursors.{Moved, rest_of}
 use Rattle.text.specs.Declaring.{ReadTo}
-use Rattle.text.specs.Progress.{ElementsAre, DeclaredAre}
+use Rattle.text.specs.Progress.{ElementsAre}
 use Rattle.text.specs.declared.cursor.Cursor.{Cursor}
 use Rattle.text.specs.declared.elements.Elements.{Elements}
 use Rattle.text.proofs.Walking.{over_sign}

@@ -1,4 +1,4 @@
-use Rattle.std.proofs.Common.{subst, true, false, Ok}
+use Rattle.std.proofs.Common.{subst, Ok}
 use Rattle.text.specs.Declaring.{MemberRead}
 use Rattle.text.proofs.Inner.{next_wanted, ended_fails, grow_then}
 use Rattle.text.proofs.dtd.children.children.Goals as goal

@@ -1,7 +1,6 @@
-use Rattle.std.proofs.Common.{rules, ◌≡◌, false, ◌==◌, subst, arith}
-use Rattle.text.specs.Cursors.{rest_of}
+use Rattle.std.proofs.Common.{rules, ◌==◌, subst, arith}
 use Rattle.text.specs.Fronts.{Past}
-use Rattle.text.proofs.Fronted.{none_there, other_there}
+use Rattle.text.proofs.Fronted.{other_there}
 use Rattle.text.proofs.Going.{past_either, all_ended, behind, blanks_past, group_ends, onward_then, onward_moved, onward_blanks, onward_mark}
 use Rattle.text.proofs.dtd.children.goes_on.Goals.{in_default-rest-via-then-rest-lt1, in_default-rest-via-else-rest-lt1+in_default-1}
 use Rattle.text.proofs.dtd.children.goes_on.Goals as goal

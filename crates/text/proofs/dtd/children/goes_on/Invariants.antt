@@ -1,4 +1,4 @@
-use Rattle.std.proofs.Common.{◌≡◌, ◌<◌, true, false, List, ◌∷◌, ℕ, length}
+use Rattle.std.proofs.Common.{◌≡◌, true, false, List, ◌∷◌, ℕ, length}
 use Rattle.grammar.specs.Declarations.{Declaration}
 use Rattle.grammar.specs.Lists.{Left}
 use Rattle.grammar.specs.Lists.State.{got}

@@ -1,4 +1,4 @@
-use Rattle.std.proofs.Common.{sym, subst, refl, true, false, Ok}
+use Rattle.std.proofs.Common.{subst, refl, Ok}
 use Rattle.grammar.specs.Words.Words.{name}
 use Rattle.grammar.specs.Machine.Named.{kid}
 use Rattle.text.specs.Declaring.{GroupOpened, OneOver}
