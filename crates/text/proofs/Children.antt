@@ -1,6 +1,6 @@
 -- A name within content is read, or the text stops there. Assumes nothing.
-use Rattle.std.proofs.Common.{◌≡◌, ℕ, Bool, true, false, List, [], ◌∷◌, ◌++◌, drop, Some, sym, refl, ap, ◌∙◌, subst}
-use Rattle.std.specs.Prelude.{Ok, Err}
+use Rattle.std.proofs.Common.{◌≡◌, ℕ, Bool, true, false, List, [], ◌∷◌, drop, Some, sym, refl, ap, ◌∙◌, subst}
+use Rattle.std.specs.Prelude.{Ok}
 use Rattle.grammar.specs.Bytes.{begins_name, IsName, NameEnds}
 use Rattle.grammar.specs.Notations.Notation.{dtd}
 use Rattle.grammar.specs.Words.Sign.{names}
@@ -11,7 +11,7 @@ use Rattle.grammar.proofs.Steps.{spelled_on}
 use Rattle.text.specs.Cursors.{rest_of, Moved, Stayed}
 use Rattle.text.specs.Declaring.{ReadTo, IsChildName, WantsName}
 use Rattle.text.specs.Fronts.{Past}
-use Rattle.text.specs.Progress.{ElementsAre, TakenIn, AtFaultBy, CursorAt, Fails}
+use Rattle.text.specs.Progress.{ElementsAre, TakenIn, AtFaultBy, Fails}
 use Rattle.text.specs.declared.cursor.Cursor.{Cursor}
 use Rattle.text.specs.declared.elements.Elements.{Elements}
 use Rattle.text.specs.declared.fault.TextCause.{TextCause}

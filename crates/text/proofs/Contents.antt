@@ -1,5 +1,5 @@
 -- Steps over the signs of content: what they leave of the elements, the bytes that a spot refuses, and the parts of a tree. Assumes nothing.
-use Rattle.std.proofs.Common.{◌≡◌, ℕ, zero, suc, ◌+◌, ◌<◌, ◌≤◌, Bool, true, false, cond, ◌==◌, List, [], ◌∷◌, ◌++◌, length, take, drop, get_or, map, Some, None, Option, sym, refl, ap, ◌∙◌, subst, arith, append_assoc}
+use Rattle.std.proofs.Common.{◌≡◌, ℕ, zero, suc, ◌≤◌, Bool, true, false, cond, ◌==◌, List, [], ◌∷◌, ◌++◌, length, take, drop, get_or, map, Some, None, Option, sym, refl, ap, ◌∙◌, subst, arith, append_assoc}
 use Rattle.std.proofs.lemmas.Bool.{false≢true}
 use Rattle.std.proofs.lemmas.Bool.Decides.{nat_tests, Decides-eqb}
 use Rattle.std.proofs.lemmas.Slice.Eq.{starts_is}
@@ -8,21 +8,19 @@ use Rattle.std.proofs.Math.Dec.{eqb}
 use Rattle.std.specs.List.{starts_with}
 use Rattle.names.specs.Numbering.{known_after}
 use Rattle.names.proofs.Numbering.{met_in_turn}
-use Rattle.parts.specs.Sets.{In}
 use Rattle.parts.specs.Parts.{blank}
-use Rattle.parts.specs.declared.part.Part.{Part}
 use Rattle.models.specs.Trees.{Tree}
-use Rattle.models.specs.Trees.Tree.{empty, symbol, choice, sequence, interleave, count}
+use Rattle.models.specs.Trees.Tree.{empty, choice, sequence, interleave, count}
 use Rattle.models.specs.Written.{sheet, subtrees, part_of}
 use Rattle.grammar.specs.Bytes.{is_blank, begins_name}
 use Rattle.grammar.specs.Notations.Notation.{dtd}
-use Rattle.grammar.specs.Words.{Sign as Inner, Join, Mark}
+use Rattle.grammar.specs.Words.{Join, Mark}
 use Rattle.grammar.specs.Words.Join.{alt, next, both}
 use Rattle.grammar.specs.Words.Mark.{optional, repeated, any}
-use Rattle.grammar.specs.Words.Sign.{names, empties, opens, closes, suffix, separator}
+use Rattle.grammar.specs.Words.Sign.{names, opens, closes, suffix, separator}
 use Rattle.grammar.specs.Meaning.{suffixed, joining}
 use Rattle.grammar.specs.Declarations.{Sign, sign_bytes}
-use Rattle.grammar.specs.Declarations.Sign.{element, declared, empty_word, any_word, pcdata_word, inner, ends}
+use Rattle.grammar.specs.Declarations.Sign.{element, declared, inner, ends}
 use Rattle.grammar.specs.Faults.{EndsWell, Faultless, names_among, begun, is_declared}
 use Rattle.grammar.specs.Machine.{Spot, SignFits, go, spelled, refused, spaced, tight, sign_at, signed, into, lettered, angled, hashed, feed_at}
 use Rattle.grammar.proofs.Steps.{spelled_on}

@@ -2,13 +2,11 @@ pub mod Runs
 pub mod Words
 pub mod Bits
 pub mod CursorLemmas
+pub mod ContentLemmas
+pub mod ElementLemmas
 pub mod Comments
 pub mod Walking
 pub mod Children
-pub mod Naming
-pub mod Reading
-pub mod ContentLemmas
-pub mod ElementLemmas
 pub mod Opening
 pub mod Quiet
 pub mod Fronted
@@ -17,7 +15,6 @@ pub mod Made
 pub mod Members
 pub mod Going
 pub mod Inner
-pub mod Opens
 pub mod Contents
 pub mod Mixed
 pub mod Titles

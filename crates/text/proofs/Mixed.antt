@@ -1,13 +1,12 @@
 -- Mixed content: how it goes on and ends, and its parts. Assumes nothing.
-use Rattle.std.proofs.Common.{◌≡◌, ℕ, ◌-◌, ◌<◌, Bool, true, false, ◌==◌, List, [], ◌∷◌, ◌++◌, length, take, Some, None, sym, refl, ap, ◌∙◌, subst, append_assoc, arith}
+use Rattle.std.proofs.Common.{◌≡◌, ℕ, ◌-◌, ◌<◌, Bool, true, false, ◌==◌, List, [], ◌∷◌, ◌++◌, length, take, None, sym, refl, ap, ◌∙◌, subst, append_assoc, arith}
 use Rattle.std.specs.Prelude.{Ok, Err, Result}
 use Rattle.std.proofs.lemmas.Bool.{false≢true}
-use Rattle.names.specs.Numbering.{symbol_in, is_known, known_after}
+use Rattle.names.specs.Numbering.{symbol_in, known_after}
 use Rattle.names.proofs.Numbering.{symbol_stays, met_in_turn}
-use Rattle.parts.specs.declared.part.Part.{Part}
 use Rattle.parts.specs.Parts.{blank}
 use Rattle.models.specs.Written.{sheet}
-use Rattle.grammar.specs.Bytes.{is_blank, begins_name}
+use Rattle.grammar.specs.Bytes.{is_blank}
 use Rattle.grammar.specs.Notations.Notation.{dtd}
 use Rattle.grammar.specs.Words.{Words}
 use Rattle.grammar.specs.Words.Words.{name, joined}
@@ -15,7 +14,7 @@ use Rattle.grammar.specs.Words.Join.{alt}
 use Rattle.grammar.specs.Words.Mark.{any}
 use Rattle.grammar.specs.Words.Sign.{closes, suffix, separator}
 use Rattle.grammar.specs.Meaning.{tree_of}
-use Rattle.grammar.specs.Declarations.{Content, Declaration, Sign, alternated}
+use Rattle.grammar.specs.Declarations.{Declaration, Sign, alternated}
 use Rattle.grammar.specs.Declarations.Content.{text}
 use Rattle.grammar.specs.Declarations.Sign.{inner}
 use Rattle.grammar.specs.Machine.{Spot, Named, name_before, refused, feed_at}
@@ -25,7 +24,7 @@ use Rattle.text.specs.Contents.{Made, made_of, MakesMore, symbol_part, join_part
 use Rattle.text.specs.Cursors.{rest_of, Moved, BlanksRead}
 use Rattle.text.specs.Declaring.{ReadTo, PartsFor, mixed_parts, is_alone, Ended, WantsName, IsChildName, ChildRead, Onward}
 use Rattle.text.specs.Fronts.{Past}
-use Rattle.text.specs.Progress.{CursorAt, Fails, NamesGrow, SymbolIs}
+use Rattle.text.specs.Progress.{Fails, NamesGrow, SymbolIs}
 use Rattle.text.specs.declared.cursor.Cursor.{Cursor}
 use Rattle.text.specs.declared.elements.Elements.{Elements}
 use Rattle.text.specs.declared.fault.PlacedCause.{PlacedCause}

@@ -16,7 +16,6 @@ use Rattle.grammar.specs.Words.Join.{alt, next, both}
 use Rattle.grammar.specs.Words.Mark.{optional, repeated, any}
 use Rattle.grammar.specs.Words.Sign.{names, opens, closes, suffix, separator}
 use Rattle.grammar.specs.Declarations.{Content, Declaration, Sign, words, all_names}
-use Rattle.grammar.specs.Declarations.Content.{text}
 use Rattle.grammar.specs.Declarations.Sign.{element, declared, inner, ends}
 use Rattle.std.specs.Str.{bytes_eq}
 use Rattle.names.specs.Numbering.{known_after}
@@ -422,8 +421,7 @@ end_alone ds n k (kids es m σ) b rest x e = absurd x
 end_alone ds n k (mixed es m ns) b rest x e = absurd x
 end_alone ds n k (wanted es m ns) b rest x e = absurd x
 end_alone ds n k (starless es m []) b rest x e =
-    let (p, q, r) = no_mark b x.3 in
-    ((λ i. refl), (λ i. refl), (λ i. refl), (λ i. refl), other _ (b == 42) r, (λ i. refl), (λ i. refl), other _ (b == 62) e)
+    ((λ i. refl), (λ i. refl), (λ i. refl), (λ i. refl), other _ (b == 42) x.3, (λ i. refl), (λ i. refl), other _ (b == 62) e)
 end_alone ds n k (starless es m (q ∷ qs)) b rest x e = absurd x
 end_alone ds n k (grouped es m v) b rest x e =
     let (p, q, r) = no_mark b x.3 in

@@ -1,5 +1,5 @@
 -- What stands as content: its fixed words and its outermost group. Assumes nothing.
-use Rattle.std.proofs.Common.{◌≡◌, ℕ, suc, ◌+◌, ◌-◌, ◌<◌, ◌≤◌, Bool, true, false, ◌==◌, List, [], ◌∷◌, ◌++◌, length, get_or, Some, None, sym, refl, ap, ◌∙◌, subst, arith}
+use Rattle.std.proofs.Common.{◌≡◌, ℕ, ◌<◌, ◌≤◌, Bool, true, false, ◌==◌, List, [], ◌∷◌, ◌++◌, length, get_or, None, sym, refl, ap, ◌∙◌, subst, arith}
 use Rattle.std.specs.Prelude.{Ok, Err, codes}
 use Rattle.std.proofs.lemmas.Bool.Decides.{nat_tests}
 use Rattle.parts.specs.Parts.{blank}
@@ -7,16 +7,15 @@ use Rattle.grammar.specs.Bytes.{is_blank}
 use Rattle.grammar.specs.Notations.Notation.{dtd}
 use Rattle.grammar.specs.Lists.State.{want}
 use Rattle.grammar.specs.Words.Sign.{opens}
-use Rattle.grammar.specs.Declarations.{Declaration, Sign, all_signs, sign_bytes}
+use Rattle.grammar.specs.Declarations.{Declaration, all_signs, sign_bytes}
 use Rattle.grammar.specs.Declarations.Content.{none, whatever}
 use Rattle.grammar.specs.Declarations.Sign.{element, declared, empty_word, any_word, pcdata_word, inner}
 use Rattle.grammar.specs.Faults.{open_groups}
 use Rattle.grammar.specs.Machine.{Spot, spelled, refused, feed_at, spot_read, Fixed, word_before, word_sign}
 use Rattle.grammar.specs.Machine.Fixed.{the_empty, the_any, the_pcdata}
 use Rattle.grammar.specs.Machine.Spot.{titled, kids, mixed, full}
-use Rattle.grammar.specs.Progress.{NotNext}
 use Rattle.text.specs.Contents.{Made, made_of, MakesMore}
-use Rattle.text.specs.Cursors.{rest_of, Moved, Stayed, BlanksRead}
+use Rattle.text.specs.Cursors.{rest_of, Moved, BlanksRead}
 use Rattle.text.specs.Declaring.{ReadTo, WordTaken, Ended}
 use Rattle.text.specs.Fronts.{Past, Differs}
 use Rattle.text.specs.Progress.{CursorAt, Fails}
@@ -24,9 +23,9 @@ use Rattle.text.specs.declared.cursor.Cursor.{Cursor}
 use Rattle.text.specs.declared.elements.Elements.{Elements}
 use Rattle.text.specs.declared.fault.PlacedCause.{PlacedCause}
 use Rattle.text.specs.declared.fault.TextCause.TheVariants.{NotDeclarations, AnyContent}
-use Rattle.text.proofs.Opens.{open-append, all_open}
+use Rattle.text.proofs.Groups.{open-append, all_open}
 use Rattle.text.proofs.Walking.{placed, stays_at, Refuses, byte_fails, word_fails, sign_fails}
-use Rattle.text.proofs.Contents.{over_quiet, read_blanks, blanks_past, byte_refused, signs_refused, unlike, unspaced}
+use Rattle.text.proofs.Contents.{over_quiet, read_blanks, byte_refused, signs_refused, unlike, unspaced}
 
 -- a fixed word that begins as it does, and is not whole
 never_empty : (first : ℕ) (tail left rest : List ℕ) (done : List ℕ) → first ∷ tail ≡ done ++ left → 1 ≤ length (done ++ rest) → get_or (done ++ rest) 0 0 ≡ first → Differs left rest

@@ -1,15 +1,14 @@
 -- A cursor goes on over white space and signs, and what the text gives where it stops. Assumes nothing.
-use Rattle.std.proofs.Common.{◌≡◌, ℕ, ◌+◌, ◌<◌, ◌≤◌, inl, inr, Bool, true, false, cond, List, [], ◌∷◌, ◌++◌, length, drop, Some, None, sym, refl, ap, ◌∙◌, subst, arith}
-use Rattle.std.specs.Prelude.{Err}
+use Rattle.std.proofs.Common.{◌≡◌, ℕ, ◌+◌, ◌<◌, inl, inr, Bool, true, false, cond, List, [], ◌∷◌, ◌++◌, length, drop, Some, None, sym, refl, ap, ◌∙◌, subst}
 use Rattle.grammar.specs.Notations.Notation.{dtd}
 use Rattle.grammar.specs.Declarations.{Sign, sign_bytes}
-use Rattle.grammar.specs.Faults.{EndsWell, Cause, SignStands, Gives, Repeats, Beyond, Faultless}
-use Rattle.grammar.specs.Faults.Cause.{kind, again, beyond}
+use Rattle.grammar.specs.Faults.{EndsWell, SignStands, Gives, Repeats, Beyond, Faultless}
+use Rattle.grammar.specs.Faults.Cause.{again, beyond}
 use Rattle.grammar.specs.Machine.{Spot, SignFits, go, spelled, tight, refused, feed_at, is_outside, spot_read, Fixed, word_before, word_sign}
 use Rattle.grammar.specs.Progress.{StandsAt, NotNext}
 use Rattle.grammar.proofs.Steps.{passes_space, passes_sign, sign_at_fault, sign_stands, stops_at_byte, stops_at_end, stops_in_word}
-use Rattle.text.specs.Causes.{cause_of, CauseIs, Explained}
-use Rattle.text.specs.Cursors.{rest_of, Moved, Stayed, BlanksRead, WordRead}
+use Rattle.text.specs.Causes.{cause_of}
+use Rattle.text.specs.Cursors.{rest_of, Moved, Stayed, BlanksRead}
 use Rattle.text.specs.Fronts.{Differs}
 use Rattle.text.specs.Progress.{CursorAt, Fails, AtFaultBy}
 use Rattle.text.specs.declared.cursor.Cursor.{Cursor}

@@ -1,5 +1,5 @@
 -- What a fault of a text tells, and what each cause says of the place. Assumes nothing.
-use Rattle.std.specs.Prelude.{◌≡◌, ℕ, ◌<◌, ◌≤◌, ◌⊎◌, true, false, List, [], ◌∷◌, ◌++◌, length}
+use Rattle.std.specs.Prelude.{◌≡◌, ℕ, ◌<◌, ◌≤◌, ◌⊎◌, true, false, List, length}
 use Rattle.parts.specs.Refusals.{Notice}
 use Rattle.parts.specs.declared.refusal.Layer.TheVariants as layer
 use Rattle.names.specs.Numbering.{is_known, known_after}

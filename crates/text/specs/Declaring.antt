@@ -9,14 +9,14 @@ use Rattle.grammar.specs.Words.{Words}
 use Rattle.grammar.specs.Words.Words.{name, group}
 use Rattle.grammar.specs.Words.{Join as Spoken}
 use Rattle.grammar.specs.Words.Join.{alt, next, both}
-use Rattle.grammar.specs.Lists.{Left, State, put}
+use Rattle.grammar.specs.Lists.{Left, State}
 use Rattle.grammar.specs.Lists.State.{want, got}
-use Rattle.grammar.specs.Declarations.{Content, Declaration, all_signs, words, alternated}
-use Rattle.grammar.specs.Declarations.Content.{none, whatever, text, children}
+use Rattle.grammar.specs.Declarations.{Content, Declaration, words, alternated}
+use Rattle.grammar.specs.Declarations.Content.{text, children}
 use Rattle.grammar.specs.Meaning.{tree_of}
 use Rattle.grammar.specs.Faults.{Gives}
-use Rattle.grammar.specs.Machine.{Spot, spelled, Named, name_before, name_after, feed_at, spot_read, made as declaration_of}
-use Rattle.grammar.specs.Machine.Spot.{outside, opened, titled, kids, mixed, wanted, starless, grouped, full}
+use Rattle.grammar.specs.Machine.{Spot, spelled, Named, name_before, name_after, feed_at, spot_read, made}
+use Rattle.grammar.specs.Machine.Spot.{outside, opened, titled, kids, starless, grouped, full}
 use Rattle.grammar.specs.Machine.Named.{title, kid, mate}
 use Rattle.parts.specs.Stacks.{Kept}
 use Rattle.text.specs.Contents.{Made, made_of, MakesMore, join_part, mark_parts}

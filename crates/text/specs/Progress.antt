@@ -1,15 +1,14 @@
 -- How far a text has been read, as private contracts and proofs say it: no public promise rests on it. Assumes nothing.
-use Rattle.std.specs.Prelude.{◌≡◌, ℕ, ◌<◌, ◌≤◌, Bool, true, false, ◌⊎◌, List, [], ◌∷◌, ◌++◌, length, Some, None, Ok, Err, Option, Result}
+use Rattle.std.specs.Prelude.{◌≡◌, ℕ, ◌<◌, ◌≤◌, Bool, true, false, List, [], ◌∷◌, ◌++◌, length, Some, Ok, Err, Result}
 use Rattle.parts.specs.Sets.{In}
 use Rattle.names.specs.Numbering.{symbol_in, is_known, known_after}
 use Rattle.grammar.specs.Notations.{Notation}
-use Rattle.grammar.specs.Notations.Notation.{dtd}
-use Rattle.grammar.specs.Declarations.{Declaration, Sign, all_signs}
+use Rattle.grammar.specs.Declarations.{Declaration, Sign}
 use Rattle.grammar.specs.Declarations.Sign.{element, declared, inner}
 use Rattle.grammar.specs.Words.Sign.{names}
 use Rattle.grammar.specs.Faults.{Cause, Gives, Repeats, Beyond, Faultless, names_among, begun, is_declared}
 use Rattle.grammar.specs.Faults.Cause.{kind, again, beyond}
-use Rattle.grammar.specs.Machine.{Spot, spelled}
+use Rattle.grammar.specs.Machine.{Spot}
 use Rattle.grammar.specs.Progress.{StandsAt}
 use Rattle.text.specs.Causes.{cause_of, CauseIs, Explained}
 use Rattle.text.specs.declared.cursor.Cursor.{Cursor}

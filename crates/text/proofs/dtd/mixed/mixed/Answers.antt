@@ -1,7 +1,6 @@
-use Rattle.std.proofs.Common.{◌≡◌, ◌+◌, Err, Ok, Bool, true, false, get_or, ◌==◌, refl, sym, subst, ◌∙◌, ap, arith}
+use Rattle.std.proofs.Common.{Err, ◌==◌, sym, subst, ◌∙◌, ap, arith}
 use borrow.Author.Tests.{ltb-true}
 use Rattle.std.proofs.lemmas.Result.{err_from_is_err_and}
-use Rattle.grammar.specs.Notations.Notation.{dtd}
 use Rattle.text.specs.Declaring.{Ended}
 use Rattle.text.specs.Fronts.{Past}
 use Rattle.text.proofs.Contents.{byte_moved, no_byte, blanks_past, grow_on, grow_none}

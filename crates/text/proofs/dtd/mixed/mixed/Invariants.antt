@@ -1,4 +1,4 @@
-use Rattle.std.proofs.Common.{◌≡◌, ℕ, ◌-◌, List, [], length}
+use Rattle.std.proofs.Common.{◌-◌, length}
 use Rattle.grammar.specs.Bytes.{is_blank}
 use Rattle.text.specs.Cursors.{rest_of}
 use Rattle.text.specs.Fronts.{Past}

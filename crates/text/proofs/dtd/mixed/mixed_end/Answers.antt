@@ -1,4 +1,4 @@
-use Rattle.std.proofs.Common.{◌≡◌, Bool, true, false, List, [], ◌∷◌, get_or, ◌==◌, refl, sym, ◌∙◌, arith, subst}
+use Rattle.std.proofs.Common.{true, false, ◌==◌, refl, sym, ◌∙◌, arith, subst}
 use borrow.Author.Tests.{ltb-true}
 use Rattle.std.proofs.lemmas.Bool.{false≢true}
 use Rattle.grammar.specs.Notations.Notation.{dtd}
@@ -8,7 +8,7 @@ use Rattle.text.specs.Declaring.{ReadTo}
 use Rattle.text.specs.Fronts.{Past}
 use Rattle.text.specs.Progress.{Fails}
 use Rattle.text.proofs.Contents.{byte_moved, no_byte, begins_other}
-use Rattle.text.proofs.Mixed.{mixed_stops, mixed_closed, star_missing, StarRead, star_read, star_unread, alone_ended, names_ended}
+use Rattle.text.proofs.Mixed.{mixed_stops, mixed_closed, star_missing, star_read, star_unread, alone_ended, names_ended}
 use Rattle.text.proofs.dtd.mixed.mixed_end.Goals as goal
 use Rattle.text.proofs.dtd.mixed.mixed_end.Goals.{in_default-via-then-rest-lt1, in_default-via-else-rest-lt1+in_default-1, then-starred, else-starred}
 
