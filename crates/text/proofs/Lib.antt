@@ -18,3 +18,5 @@ pub mod Inner
 pub mod Contents
 pub mod Mixed
 pub mod Titles
+pub mod Naming
+pub mod Reading

@@ -15,7 +15,7 @@ use Rattle.grammar.specs.Declarations.{Content, Declaration, words, alternated}
 use Rattle.grammar.specs.Declarations.Content.{text, children}
 use Rattle.grammar.specs.Meaning.{tree_of}
 use Rattle.grammar.specs.Faults.{Gives}
-use Rattle.grammar.specs.Machine.{Spot, spelled, Named, name_before, name_after, feed_at, spot_read, made}
+use Rattle.grammar.specs.Machine.{Spot, spelled, Named, name_before, name_after, feed_at, spot_read, made as declaration_of}
 use Rattle.grammar.specs.Machine.Spot.{outside, opened, titled, kids, starless, grouped, full}
 use Rattle.grammar.specs.Machine.Named.{title, kid, mate}
 use Rattle.parts.specs.Stacks.{Kept}

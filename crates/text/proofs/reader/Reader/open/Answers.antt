@@ -1,8 +1,3 @@
-use Rattle.std.proofs.Common.{subst, sym, refl}
-use Rattle.grammar.specs.Notations.{Notation}
-use Rattle.text.specs.Between.{GivesFirst}
-use Rattle.text.specs.Standing.{Standing}
-use Rattle.text.specs.Progress.{ElementsAre}
 use Rattle.text.proofs.Reading.{begins}
 use Rattle.text.proofs.reader.Reader.open.Goals as goal
 
