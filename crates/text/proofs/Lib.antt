@@ -20,3 +20,4 @@ pub mod Mixed
 pub mod Titles
 pub mod Naming
 pub mod Reading
+pub mod Declarations
