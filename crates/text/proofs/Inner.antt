@@ -1,5 +1,5 @@
 -- A member of a group: a group that opens, or a name and what follows it. Assumes nothing.
-use Rattle.std.proofs.Common.{◌≡◌, ℕ, Bool, true, false, cond, ◌==◌, List, [], ◌∷◌, ◌++◌, length, drop, Some, None, Option, Ok, Err, Result, IsErrAnd, sym, refl, ap, ◌∙◌, subst, arith}
+use Rattle.std.proofs.Common.{◌≡◌, ℕ, Bool, true, false, cond, ◌==◌, List, [], ◌∷◌, ◌++◌, drop, Some, None, Option, Ok, Err, Result, IsErrAnd, sym, refl, ap, ◌∙◌, subst}
 use Rattle.std.proofs.lemmas.List.{append_assoc, append-nil}
 use Rattle.std.proofs.lemmas.Result.{err_from_is_err_and}
 use Rattle.parts.specs.Stacks.{Kept}
@@ -17,9 +17,9 @@ use Rattle.grammar.specs.Declarations.{Declaration, Sign}
 use Rattle.grammar.specs.Declarations.Sign.{inner, ends}
 use Rattle.grammar.specs.Machine.{Spot, Phase, go, into, signed, lettered, angled, hashed, refused}
 use Rattle.grammar.specs.Machine.Spot.{kids}
-use Rattle.text.specs.Contents.{Made, made_of, MakesMore, symbol_part}
+use Rattle.text.specs.Contents.{Made, MakesMore, symbol_part}
 use Rattle.text.specs.Cursors.{rest_of, Stayed, BlanksRead}
-use Rattle.text.specs.Declaring.{ReadTo, Ended, GroupOpened, GoneOn, HashPast, MemberWanted, MemberRead, WantsName, PartsFor, state_parts, outer_parts, left_parts}
+use Rattle.text.specs.Declaring.{Ended, GroupOpened, GoneOn, HashPast, MemberWanted, MemberRead, WantsName, PartsFor, state_parts, outer_parts, left_parts}
 use Rattle.text.specs.Fronts.{Past}
 use Rattle.text.specs.Progress.{NamesGrow, SymbolIs, Fails}
 use Rattle.text.specs.declared.cursor.Cursor.{Cursor}

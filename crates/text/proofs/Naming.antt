@@ -9,7 +9,7 @@ use Rattle.models.specs.Written.{sheet}
 use Rattle.models.proofs.Written.{taken_exactly}
 use Rattle.names.specs.Numbering.{symbol_in, is_known, known_after}
 use Rattle.names.proofs.Numbering.{symbol_below, met_known, met_new, met_in_turn, each_met_known}
-use Rattle.grammar.specs.Words.{Words, Mark, Join, Sign as Inner, signs}
+use Rattle.grammar.specs.Words.{Words, Sign as Inner, signs}
 use Rattle.grammar.specs.Words.Words.{name, nothing, group, marked, joined}
 use Rattle.grammar.specs.Words.Mark.{optional, repeated, any}
 use Rattle.grammar.specs.Words.Join.{alt, next, both}

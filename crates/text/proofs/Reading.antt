@@ -1,11 +1,10 @@
 -- What a reader is answered and how it stands afterwards. Assumes nothing.
 use Rattle.std.proofs.Common.{◌≡◌, ℕ, ◌+◌, ◌<◌, ◌≤◌, List, [], ◌∷◌, ◌++◌, length, take, drop, Some, None, Option, sym, refl, ap, ◌∙◌, subst, arith, length-append}
-use Rattle.std.specs.Prelude.{Ok, Err, true, is_ok, replicate, ◌-◌, ◌^◌}
+use Rattle.std.specs.Prelude.{Ok, true, is_ok, replicate, ◌-◌, ◌^◌}
 use Rattle.parts.specs.Parts.{blank}
 use Rattle.text.specs.Delivery.{Delivered}
 use Rattle.text.specs.declared.declared.Declared.{Declared}
-use Rattle.text.specs.declared.refusal.ReadRefusal.{ReadRefusal}
-use Rattle.std.proofs.lemmas.List.{append_assoc, append-nil, take_all, length-take}
+use Rattle.std.proofs.lemmas.List.{append_assoc, take_all, length-take}
 use Rattle.models.specs.Sheets.{table_answer, is_model}
 use Rattle.names.specs.Numbering.{known_after}
 use Rattle.grammar.specs.Notations.{Notation}
@@ -16,7 +15,7 @@ use Rattle.text.specs.Between.{Between, GivesFirst, model_parts, Declares, Decla
 use Rattle.text.specs.Contents.{Made}
 use Rattle.text.specs.Law.{Reading, TextGives, NamesKnown, names_of}
 use Rattle.text.specs.Progress.{ElementsAre}
-use Rattle.text.specs.Standing.{StandsWith, Standing}
+use Rattle.text.specs.Standing.{Standing}
 use Rattle.text.specs.declared.cursor.Cursor.{Cursor}
 use Rattle.text.specs.declared.element.Element.{Element}
 use Rattle.text.specs.declared.elements.Elements.{Elements}

@@ -7,12 +7,15 @@ ghost use Rattle.text.specs.Contents.{made_of};
 ghost use Rattle.grammar.specs.Machine.Spot.{outside};
 ghost use Rattle.text.specs.Declaring.{ReadTo, DeclarationRead};
 ghost use Rattle.text.specs.Progress.{NamesGrow};
+ghost use Rattle.grammar.proofs.Whole.{gives_some};
+ghost use Rattle.grammar.proofs.Faults.{gives_one};
 
 use crate::content::Content;
 use crate::cursor::Cursor;
 use crate::element::Element;
 use crate::elements::Elements;
 use crate::fault::PlacedCause;
+use crate::notation::Notation;
 
 mod children;
 mod content;
@@ -20,7 +23,8 @@ mod mixed;
 mod opening;
 mod steps;
 
-/// The notation of a DTD.
+/// The notation of a DTD: element declarations of XML 1.0, without parameter entities and
+/// colons.
 #[derive(Clone, Copy)]
 pub struct Dtd;
 
@@ -40,4 +44,21 @@ fn declaration<'t>(
     content::content(cursor, elements, made)?;
     opening::end(cursor, made)?;
     Ok(Some(element))
+}
+
+impl Notation for Dtd {
+    ghost which = { dtd };
+
+    ghost some = { gives_some };
+
+    ghost one = { gives_one };
+
+    fn declaration<'t>(
+        &self,
+        cursor: &mut Cursor<'t>,
+        elements: &mut Elements,
+        made: &mut Content,
+    ) -> Result<Option<Element<'t>>, PlacedCause> {
+        declaration(cursor, elements, made)
+    }
 }

@@ -6,7 +6,7 @@ mod content;
 mod cursor;
 pub mod declared;
 mod delivery;
-mod dtd;
+pub mod dtd;
 mod element;
 mod elements;
 pub mod fault;
