@@ -105,7 +105,7 @@ few_begun ks ds d all =
 pub declares : (ks : List (List ℕ)) (bytes : List ℕ) (ds : List Declaration) (r : Result (Option Element) PlacedCause) (c : Cursor) (e : Elements) (m : Made)
     → DeclarationRead ks bytes ds r c e m → Declared dtd ks bytes ds r c e m
 declares ks bytes ds (Ok None) c e m (all, (h, r)) = (all, stands ks bytes ds h c e r)
-declares ks bytes ds (Ok (Some el)) c e m (k, r, symbol, made, few) =
+declares ks bytes ds (Ok (Some el)) c e m (k, r, symbol, at, made, few) =
     let d = declaration_of el.name.now k in
     let b = stands ks bytes (ds ++ (d ∷ [])) false c e r in (
       d,
@@ -113,6 +113,7 @@ declares ks bytes ds (Ok (Some el)) c e m (k, r, symbol, made, few) =
         between = b;
         first = gives_more ks bytes c.at (ds ++ (d ∷ [])) false r.cursor.at;
         name = refl;
+        stands = at;
         symbol = symbol;
         made = made;
         parts = few;

@@ -20,13 +20,13 @@ use Rattle.grammar.specs.Declarations.Sign.{element, declared, inner, ends}
 use Rattle.std.specs.Str.{bytes_eq}
 use Rattle.names.specs.Numbering.{known_after}
 use Rattle.grammar.specs.Meaning.{tree_of}
-use Rattle.grammar.specs.Faults.{Gives, PartsBeyond, names_among, begun, is_declared}
+use Rattle.grammar.specs.Faults.{Gives, SignStands, PartsBeyond, names_among, begun, is_declared}
 use Rattle.grammar.specs.Faults.Cause.{kind}
 use Rattle.grammar.specs.Machine.{Spot, made, go, spelled, tight, refused, signed, sign_at, lettered, angled, hashed, feed_at, is_outside, spot_read}
 use Rattle.grammar.specs.Machine.Spot.{outside, opened, titled, kids, mixed, wanted, starless, grouped, full}
 use Rattle.grammar.specs.Machine.Fixed.{the_element}
 use Rattle.grammar.specs.Progress.{StandsAt, NotNext, NoCharNext}
-use Rattle.grammar.proofs.Steps.{passes_comment, stops_before_comment, stops_in_comment, ends_whole, spelled_on, ended_beyond}
+use Rattle.grammar.proofs.Steps.{passes_comment, stops_before_comment, stops_in_comment, ends_whole, spelled_on, sign_stands, ended_beyond}
 use Rattle.text.specs.Contents.{AllOf}
 use Rattle.text.specs.Cursors.{rest_of, Moved, Stayed, BlanksRead, NameRead, CommentRead}
 use Rattle.text.specs.Declaring.{ReadTo, WordTaken, GapPast, GapRead, content_parts, Closes}
@@ -300,6 +300,12 @@ title_read ks bytes ds n old mid new f s {t} r blank some moved is whole (one, t
       cursor = over_sign ks bytes (opened ds) true (declared n) (titled ds n) mid new at refl refl is moved whole one;
       elements = subst (λ ss. ElementsAre dtd ks ss f) (sym (spelled_on ks bytes mid.at (opened ds) true (declared n) (titled ds n) at.at refl)) taken;
     }
+
+pub title_stands : (ks : List (List ℕ)) (bytes : List ℕ) (ds : List Declaration) (n : List ℕ) (old mid new : Cursor) {b : Bool} → CursorAt ks bytes (opened ds) false old
+    → BlanksRead old b mid → b ≡ true → Moved mid n new → IsName n → NameEnds (rest_of new) → SignStands dtd bytes mid.at (spelled (opened ds)) (declared n)
+title_stands ks bytes ds n old mid new r blank some moved is whole =
+    let at = title_behind ks bytes ds old mid r blank some in
+    sign_stands ks bytes mid.at (opened ds) true (declared n) (titled ds n) (rest_of new) at.at refl refl is (rest_is ks bytes (opened ds) true mid at ∙ moved.read) whole
 
 pub title_fails : (ks : List (List ℕ)) (bytes : List ℕ) (ds : List Declaration) (n : List ℕ) (old mid new : Cursor) (cause : TextCause) {t : Bool}
     → CursorAt ks bytes (opened ds) false old → BlanksRead old t mid → t ≡ true → Moved mid n new → IsName n → NameEnds (rest_of new)

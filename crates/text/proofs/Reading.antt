@@ -9,11 +9,12 @@ use Rattle.models.specs.Sheets.{table_answer, is_model}
 use Rattle.names.specs.Numbering.{known_after}
 use Rattle.grammar.specs.Notations.{Notation}
 use Rattle.grammar.specs.Declarations.{Declaration, IsText, all_names, all_signs, words}
+use Rattle.grammar.specs.Declarations.Sign.{element, declared}
 use Rattle.grammar.specs.Meaning.{tree_of}
-use Rattle.grammar.specs.Faults.{Cause, number, Gives, GivesOne, AllFaultless, parts_of}
+use Rattle.grammar.specs.Faults.{SignStands, Cause, number, Gives, GivesOne, AllFaultless, parts_of}
 use Rattle.text.specs.Between.{Between, GivesFirst, model_parts, Declares, Declared as Owed}
 use Rattle.text.specs.Contents.{Made}
-use Rattle.text.specs.Law.{Reading, TextGives, NamesKnown, names_of}
+use Rattle.text.specs.Law.{Reading, TextGives, NamesKnown, names_of, PlaceTold}
 use Rattle.text.specs.Progress.{ElementsAre}
 use Rattle.text.specs.Standing.{Standing}
 use Rattle.text.specs.declared.cursor.Cursor.{Cursor}
@@ -315,11 +316,11 @@ few_given ds given e h = omega arith
 
 -- the parts delivered are the first of the sheet
 pub delivered_front : (el : Element) (ps old new : List Part) (d : Declared) → Delivered el ps old (Ok d) new → take d.length new ≡ ps
-delivered_front el ps old new d (size, symbol, name, sheet) = ap (take d.length) sheet ∙ ap (λ n. take n (ps ++ replicate (256 - length ps) blank)) size ∙ take-append_seam ps _
+delivered_front el ps old new d (size, symbol, name, place, sheet) = ap (take d.length) sheet ∙ ap (λ n. take n (ps ++ replicate (256 - length ps) blank)) size ∙ take-append_seam ps _
 
 pub sheet_given : (el : Element) (ps old new : List Part) (d : Declared) → Delivered el ps old (Ok d) new
     → new ≡ take d.length new ++ replicate (256 - length (take d.length new)) blank
-sheet_given el ps old new d h = h.3 ∙ ap (λ x. x ++ replicate (256 - length x) blank) (sym (delivered_front el ps old new d h))
+sheet_given el ps old new d h = h.4 ∙ ap (λ x. x ++ replicate (256 - length x) blank) (sym (delivered_front el ps old new d h))
 
 -- the names after a fault are those before the call
 pub names_back : (e f : Elements) (known : ℕ) (new : List (List ℕ)) → NamesGrow e f → known ≡ length e.names → new ≡ take known f.names → new ≡ e.names
@@ -330,3 +331,13 @@ told_of r r2 t same h = subst (λ x. ModelTold x t) same h
 
 pub one_more : (r r2 : Reading) → r ≡ r2 → record r { given = r.given + 1 } ≡ record r2 { given = r2.given + 1 }
 one_more r r2 same = ap (λ x. record { notation = x.notation; known = x.known; texts = x.texts; text = x.text; given = x.given + 1 }) same
+
+-- where the name stands
+pub place_told : (ν : Notation) (bytes : List ℕ) (c new : Cursor) (e f : Elements) (known texts given : ℕ) (s : Standing ν bytes c e known texts given None) (d : Declaration) (el : Element)
+    (m : Made) → Declares ν (take known e.names) bytes s.ds d el new f m → GivesOne ν → (dl : Declared) → dl.name.now ≡ el.name.now → dl.place ≡ el.place
+    → (r : Reading) → seen ν bytes e known texts given ≡ r → PlaceTold r (Ok (Some dl))
+place_told ν bytes c new e f known texts given s d el m r one dl name place reading view = subst (λ x. PlaceTold x (Ok (Some dl))) view (λ ds more end g count.
+    let first : ds ≡ s.ds = given_same ν bytes c e known texts given None s one ds more end g count in
+    subst (λ n. SignStands ν bytes dl.place (all_signs ds ++ (element ∷ [])) (declared n)) (sym (name ∙ r.name))
+    (subst (λ p. SignStands ν bytes p (all_signs ds ++ (element ∷ [])) (declared d.name)) (sym place)
+    (subst (λ x. SignStands ν bytes el.place (all_signs x ++ (element ∷ [])) (declared d.name)) (sym first) r.stands)))

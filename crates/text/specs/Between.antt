@@ -5,7 +5,8 @@ use Rattle.names.specs.Numbering.{symbol_in}
 use Rattle.models.specs.Written.{sheet}
 use Rattle.grammar.specs.Notations.{Notation}
 use Rattle.grammar.specs.Declarations.{Declaration, all_signs, IsText, words}
-use Rattle.grammar.specs.Faults.{Cause, Gives, AllFaultless}
+use Rattle.grammar.specs.Declarations.Sign.{element, declared}
+use Rattle.grammar.specs.Faults.{Cause, SignStands, Gives, AllFaultless}
 use Rattle.grammar.specs.Meaning.{tree_of}
 use Rattle.text.specs.Contents.{Made, made_of}
 use Rattle.text.specs.Progress.{ElementsAre, Fails}
@@ -34,6 +35,7 @@ pub record Declares (ν : Notation) (ks : List (List ℕ)) (bytes : List ℕ) (d
   pub between : Between ν ks bytes (ds ++ (d ∷ [])) c e
   pub first : GivesFirst ν ks bytes (ds ++ (d ∷ []))
   pub name : el.name.now ≡ d.name
+  pub stands : SignStands ν bytes el.place (all_signs ds ++ (element ∷ [])) (declared d.name)
   pub symbol : el.symbol ≡ symbol_in e.names d.name
   pub made : m ≡ made_of (model_parts e.names d)
   pub parts : length (model_parts e.names d) ≤ 256

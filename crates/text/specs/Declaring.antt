@@ -14,7 +14,8 @@ use Rattle.grammar.specs.Lists.State.{want, got}
 use Rattle.grammar.specs.Declarations.{Content, Declaration, words, alternated}
 use Rattle.grammar.specs.Declarations.Content.{text, children}
 use Rattle.grammar.specs.Meaning.{tree_of}
-use Rattle.grammar.specs.Faults.{Gives}
+use Rattle.grammar.specs.Declarations.Sign.{declared}
+use Rattle.grammar.specs.Faults.{Gives, SignStands}
 use Rattle.grammar.specs.Machine.{Spot, spelled, Named, name_before, name_after, feed_at, spot_read, made as declaration_of}
 use Rattle.grammar.specs.Machine.Spot.{outside, opened, titled, kids, starless, grouped, full}
 use Rattle.grammar.specs.Machine.Named.{title, kid, mate}
@@ -80,7 +81,9 @@ Begun ks bytes ds (Err f) c e = Fails dtd ks bytes ds f
 
 -- it has its name
 abbrev pub Titled : List (List ℕ) → List ℕ → List Declaration → Result Element PlacedCause → Cursor → Elements → Type 0
-Titled ks bytes ds (Ok el) c e = ReadTo ks bytes (titled ds el.name.now) false c e × SymbolIs el.name.now (Ok el.symbol) e
+Titled ks bytes ds (Ok el) c e =
+    ReadTo ks bytes (titled ds el.name.now) false c e × SymbolIs el.name.now (Ok el.symbol) e
+    × SignStands dtd bytes el.place (spelled (opened ds)) (declared el.name.now)
 Titled ks bytes ds (Err f) c e = Fails dtd ks bytes ds f
 
 -- a name within content
@@ -237,5 +240,5 @@ abbrev pub DeclarationRead : List (List ℕ) → List ℕ → List Declaration �
 DeclarationRead ks bytes ds (Ok None) c e m = Gives dtd ks bytes ds None × ((h : Bool) × ReadTo ks bytes (outside ds) h c e)
 DeclarationRead ks bytes ds (Ok (Some el)) c e m =
     (k : Content) × ReadTo ks bytes (outside (ds ++ (declaration_of el.name.now k ∷ []))) false c e
-    × (el.symbol ≡ symbol_in e.names el.name.now) × (m ≡ made_of (content_parts k e.names)) × (length (content_parts k e.names) ≤ 256)
+    × (el.symbol ≡ symbol_in e.names el.name.now) × SignStands dtd bytes el.place (spelled (opened ds)) (declared el.name.now) × (m ≡ made_of (content_parts k e.names)) × (length (content_parts k e.names) ≤ 256)
 DeclarationRead ks bytes ds (Err f) c e m = Fails dtd ks bytes ds f

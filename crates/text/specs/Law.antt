@@ -5,8 +5,9 @@ use Rattle.parts.specs.Parts.{blank}
 use Rattle.names.specs.Numbering.{known_after, symbol_in}
 use Rattle.models.specs.Sheets.{table_answer}
 use Rattle.grammar.specs.Notations.{Notation}
-use Rattle.grammar.specs.Declarations.{Declaration, all_names, words}
-use Rattle.grammar.specs.Faults.{Cause, number, parts_of, Gives}
+use Rattle.grammar.specs.Declarations.{Declaration, all_names, all_signs, words}
+use Rattle.grammar.specs.Declarations.Sign.{element, declared}
+use Rattle.grammar.specs.Faults.{Cause, number, SignStands, parts_of, Gives}
 use Rattle.grammar.specs.Meaning.{tree_of}
 use Rattle.text.specs.Causes.{at_text, text_notice, Explained}
 use Rattle.text.specs.declared.fault.TextFault.{TextFault}
@@ -88,6 +89,13 @@ ModelTold r (declares ps s n) =
     → TextGives r (ds ++ (d ∷ more)) end → length ds ≡ r.given
     → table_answer ps ≡ Ok (tree_of (known_behind r (ds ++ (d ∷ []))) (words d.content))
 ModelTold r t = Unit {0}
+
+-- where the name of the declaration stands in the text: behind the declarations given before and the word that begins this one
+abbrev pub PlaceTold : Reading → Result (Option Declared) ReadRefusal → Type 0
+PlaceTold r (Ok (Some d)) =
+    (ds more : List Declaration) (end : Option (Cause × ℕ))
+    → TextGives r (ds ++ more) end → length ds ≡ r.given → SignStands r.notation r.text d.place (all_signs ds ++ (element ∷ [])) (declared d.name.now)
+PlaceTold r result = Unit {0}
 
 -- the names known in a reading: those behind the declarations that it has given
 abbrev pub NamesKnown : Reading → List (List ℕ) → Type 0

@@ -42,5 +42,6 @@ pub fn deliver<'t>(
         length: parts.len(),
         symbol: element.symbol,
         name: element.name,
+        place: element.place,
     })
 }

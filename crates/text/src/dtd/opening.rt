@@ -63,7 +63,11 @@ pub(super) fn title<'t>(
         return Err(misplaced(cursor));
     };
     match elements.declare(name) {
-        Ok(symbol) => Ok(Element { name, symbol }),
+        Ok(symbol) => Ok(Element {
+            name,
+            symbol,
+            place,
+        }),
         Err(cause) => Err(cause.at(place)),
     }
 }

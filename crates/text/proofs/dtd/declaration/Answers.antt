@@ -52,7 +52,7 @@ returns-clause-read c ks bytes ds h r blank =
     let titled = c.in_ok-element.ensures.titled ks bytes ds opened in
     let (k, σ, read, closes, parts) = c.in_ok-content.ensures.ended ks bytes ds n titled.0 blank in
     let (closed, few) = c.in_ok-end.ensures ks bytes ds n k σ c.content.new.elements read closes parts in
-    (k, closed, symbol_kept n _ c.title.new.elements c.content.new.elements titled.1 c.content.ensures.grow, parts [], few c.content.new.elements.names)
+    (k, closed, symbol_kept n _ c.title.new.elements c.content.new.elements titled.1 c.content.ensures.grow, titled.2, parts [], few c.content.new.elements.names)
 
 pub returns-clause-grow : goal.returns-clause-grow
 returns-clause-grow c =

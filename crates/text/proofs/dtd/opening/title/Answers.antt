@@ -1,7 +1,7 @@
 use Rattle.std.proofs.Common.{subst, sym}
 use Rattle.grammar.specs.Notations.Notation.{dtd}
 use Rattle.text.specs.Progress.{Fails}
-use Rattle.text.proofs.Opening.{title_unspaced, title_missing, title_read, title_fails}
+use Rattle.text.proofs.Opening.{title_unspaced, title_missing, title_read, title_stands, title_fails}
 use Rattle.text.proofs.dtd.opening.title.Goals as goal
 
 pub returns-then-not-skip_blanks-clause-titled : goal.returns-then-not-skip_blanks-clause-titled
@@ -21,6 +21,8 @@ returns-in-Ok-clause-titled c ks bytes ds r =
       title_read ks bytes ds c.in-Some.name.now c.args.cursor.now c.skip_blanks.new.self c.name.new.self c.declare.new.self c.in-Ok.symbol r.cursor
           c.skip_blanks.ensures c.if-not-skip_blanks.false moved name whole (c.in-Ok.ensures.taken ks _ r.elements),
       c.in-Ok.ensures.symbol,
+      title_stands ks bytes ds c.in-Some.name.now c.args.cursor.now c.skip_blanks.new.self c.name.new.self r.cursor c.skip_blanks.ensures
+          c.if-not-skip_blanks.false moved name whole,
     )
 
 pub returns-in-Err-clause-titled : goal.returns-in-Err-clause-titled
