@@ -13,5 +13,6 @@ pub mod fault;
 mod join;
 mod mark;
 pub mod notation;
+pub mod position;
 pub mod reader;
 pub mod refusal;
