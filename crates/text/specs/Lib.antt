@@ -8,3 +8,4 @@ pub mod Between
 pub mod Law
 pub mod Standing
 pub mod Delivery
+pub mod Refused
