@@ -9,3 +9,4 @@ pub mod Law
 pub mod Standing
 pub mod Delivery
 pub mod Positions
+pub mod Refused

@@ -1,7 +1,11 @@
 //! What is wrong with a text, and where.
 
-ghost use Rattle.std.specs.Prelude.{◌≡◌};
-ghost use Rattle.text.specs.Causes.{cause_number};
+ghost use Rattle.std.specs.Prelude.{◌≡◌, Some};
+ghost use Rattle.text.specs.Causes.{cause_number, text_notice};
+ghost use Rattle.text.specs.Refused.{cause_said, text_fault_said};
+
+use parts::refusal::Layer;
+use std::fmt;
 
 /// Why a text cannot be read on. docs/TEXTS.md says when each comes.
 #[derive(Clone, Copy, PartialEq, Eq)]
@@ -64,5 +68,38 @@ impl TextCause {
             | TextCause::TooDeep
             | TextCause::TooManyParts => 16,
         }
+    }
+}
+
+impl fmt::Display for TextCause {
+    ghost output = { λ c. Some (cause_said c) };
+
+    fn fmt<W: fmt::Write>(&self, f: &mut fmt::Formatter<W>) -> fmt::Result {
+        f.write_str(match self {
+            TextCause::NotDeclarations => "no declarations from here on",
+            TextCause::AnyContent => "ANY is not taken",
+            TextCause::DeclaredAgain => "declared already",
+            TextCause::LongName => "a name of over 32 bytes",
+            TextCause::TooManyNames => "over 64 names",
+            TextCause::TooManyDeclarations => "over 32 declarations",
+            TextCause::TooDeep => "over 16 groups open at once",
+            TextCause::TooManyParts => "over 256 parts",
+        })
+    }
+}
+
+impl fmt::Display for TextFault {
+    ghost output = { λ fault. Some (text_fault_said (text_notice fault)) };
+
+    fn fmt<W: fmt::Write>(&self, f: &mut fmt::Formatter<W>) -> fmt::Result {
+        let number = self.cause.number();
+        let layer = Layer::Text;
+        let place = self.place;
+        let texts = self.texts;
+        let declarations = self.declarations;
+        write!(
+            f,
+            "refused {number}, {layer}, place {place}, after {texts} texts and {declarations} declarations"
+        )
     }
 }
