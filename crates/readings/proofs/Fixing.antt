@@ -3,14 +3,13 @@ use Rattle.std.proofs.Common.{◌≡◌, ℕ, zero, Option, List, [], ◌∷◌,
 use Rattle.grammar.specs.Declarations.{Declaration}
 use Rattle.grammar.specs.Faults.{Cause, GivesOne}
 use Rattle.grammar.specs.Faults.Cause.{kind}
-use Rattle.text.specs.Law.{Reading, Told, NextDue, TextGives}
+use Rattle.text.specs.Law.{Reading, Told, NextDue}
 use Rattle.text.specs.Law.Told.{declares, none_left, wrong_sheet, fault, no_model}
-use Rattle.text.specs.Causes.{text_notice}
 use Rattle.text.proofs.Reading.{same_front}
-use Rattle.readings.specs.Histories.{Asked, Said, Exchange, History, Begun, one_on, read_on, texts_after, texts_begun}
+use Rattle.readings.specs.Histories.{Asked, Said, History, Begun, read_on, texts_after, texts_begun}
 use Rattle.readings.specs.Histories.Asked.{begins, next}
 use Rattle.readings.specs.Histories.Said.{begun, no_text, tells}
-use Rattle.readings.specs.Law.{Start, AllGiven, HasGiven, NextSaid, Due, Lawful, NamesKnown, SameTold, SameSaid, SameAsked, SameAnswers, LawFixes, reading_of, known_with}
+use Rattle.readings.specs.Runs.{Start, AllGiven, HasGiven, NextSaid, Due, Lawful, NamesKnown, SameTold, SameSaid, SameAsked, SameAnswers, LawFixes, reading_of, known_with}
 
 -- one place of two lists that are the same
 same_place : (ds es : List Declaration) (d k : Declaration) (more less : List Declaration) → ds ++ (d ∷ more) ≡ es ++ (k ∷ less) → length ds ≡ length es → (ds ≡ es) × (d ≡ k)

@@ -1,22 +1,21 @@
 -- One call more of a run over texts. Assumes nothing.
-use Rattle.std.proofs.Common.{◌≡◌, ℕ, ◌+◌, ◌<◌, ◌≤◌, min, List, [], ◌∷◌, ◌++◌, length, take, get_or, refl, sym, ap, ◌∙◌, subst, arith, length-append}
+use Rattle.std.proofs.Common.{◌≡◌, ℕ, ◌+◌, ◌<◌, ◌≤◌, min, List, [], ◌∷◌, ◌++◌, length, take, get_or, is_ok, refl, sym, ap, ◌∙◌, subst, arith, length-append}
 use Rattle.std.proofs.lemmas.List.{append_assoc, take_more}
 use Rattle.names.specs.Numbering.{known_after}
 use Rattle.names.specs.declared.vocabulary.Vocabulary.{Vocabulary}
 use Rattle.names.proofs.Numbering.{met_in_turn}
 use Rattle.grammar.specs.Declarations.{Declaration}
 use Rattle.text.specs.Between.{GivesFirst}
-use Rattle.text.specs.Law.{Reading, Told, NextDue, TextGives, names_of, reading_after}
+use Rattle.text.specs.Law.{Reading, Told, NextDue, ModelTold, TextGives, names_of, reading_after}
 use Rattle.text.specs.Law.Told.{declares, none_left, wrong_sheet, fault, no_model}
 use Rattle.text.proofs.Naming.{names_of-append}
-use Rattle.readings.specs.Histories.{Asked, Said, Exchange, History, Begun, one_on, texts_after, texts_begun}
+use Rattle.readings.specs.Histories.{Said, History, Begun, one_on, texts_after, texts_begun}
 use Rattle.readings.specs.Histories.Asked.{begins, next}
-use Rattle.readings.specs.Histories.Said.{begun, no_text, tells}
+use Rattle.readings.specs.Histories.Said.{begun, tells}
 use Rattle.readings.specs.Calls.{asked, said, history, history_from}
-use Rattle.readings.specs.Law.{Start, AllGiven, HasGiven, NextSaid, Due, Lawful, reading_of, known_with, texts_with}
+use Rattle.readings.specs.Runs.{Start, AllGiven, HasGiven, NextSaid, Due, Lawful, SaysModel, ModelsSaid, reading_of, known_with, texts_with}
 use Rattle.readings.specs.Desks.{Closed, NextCame, StandsAt}
 use Rattle.readings.specs.declared.call.ReadCall.{ReadCall}
-use Rattle.readings.specs.declared.call.ReadCall.TheVariants.{Next}
 use Rattle.readings.specs.declared.answer.ReadAnswer.{ReadAnswer}
 use Rattle.readings.specs.declared.desk.Desk.{Desk}
 use Rattle.readings.specs.declared.desk.Desk.TheVariants.{Idle, Reads}
@@ -50,8 +49,8 @@ pub begins_text : (N : Type 0) (s : Start) (bs : List Begun) (w : Vocabulary) (t
     → StandsAt {N = N} s (texts_after (begins text) begun bs) (Reads r)
 begins_text N s bs w text (ds, all, names, texts) (more, end, gives) r is =
     let same : r ≡ reading_of s ds bs (record { text = text; given = 0 }) =
-        is ∙ ap (λ x. record { notation = s.notation; known = x; texts = w.texts; text = text; given = 0 }) names
-        ∙ ap (λ x. record { notation = s.notation; known = known_with s ds; texts = x; text = text; given = 0 }) texts in
+    is ∙ ap (λ x. record { notation = s.notation; known = x; texts = w.texts; text = text; given = 0 }) names
+    ∙ ap (λ x. record { notation = s.notation; known = known_with s ds; texts = x; text = text; given = 0 }) texts in
     let given : HasGiven (record { notation = s.notation; known = w.names; texts = w.texts; text = text; given = 0 }) [] = (more, end, gives, refl) in
     (ds, [], all, same, subst (λ x. HasGiven x []) (sym is) given)
 
@@ -66,25 +65,36 @@ stays N s bs b before here (wrong_sheet l) all gave due = absurd due
 stays N s bs b before here (fault f) all gave due = (before, here, all, refl, gave)
 stays N s bs b before here no_model all gave due = absurd due
 
+-- the parts told are a model
+told_model : (r : Reading) (t : Told) → NextDue r t → ModelTold r t → SaysModel (tells t)
+told_model r (declares ps y n) (ds, d, more, end, gives, count, name, symbol, parts) model = ap is_ok (model ds d more end gives count)
+told_model r none_left due model = tt
+told_model r (wrong_sheet l) due model = tt
+told_model r (fault f) due model = tt
+told_model r no_model due model = tt
+
 -- the next declaration is asked for
-pub next_stands : {N : Type 0} (s : Start) (bs : List Begun) (d e : Desk N) (a : Said) → StandsAt s bs d → NextCame d a e → NextSaid s bs a × StandsAt s (texts_after next a bs) e
-next_stands s [] (Idle v) e a at (is, same) = (is, rw (is, same) at)
+pub next_stands : {N : Type 0} (s : Start) (bs : List Begun) (d e : Desk N) (a : Said) → StandsAt s bs d → NextCame d a e
+    → NextSaid s bs a × StandsAt s (texts_after next a bs) e × SaysModel a
+next_stands s [] (Idle v) e a at (is, same) = (is, rw (is, same) at, subst SaysModel (sym is) tt)
 next_stands s [] (Reads r) e a at came = absurd at
 next_stands s (b ∷ bs) (Idle v) e a at came = absurd at
-next_stands {N = N} s (b ∷ bs) (Reads r) e a (before, here, all, is, gave) (t, told, due, after) =
+next_stands {N = N} s (b ∷ bs) (Reads r) e a (before, here, all, is, gave) (t, told, due, model, after) =
     let owed = subst (λ x. NextDue x t) is due in (
       (before, t, all, owed, told),
       rw (told, after, is) (stays N s bs b before here t all (subst (λ x. HasGiven x here) is gave) owed),
+      subst SaysModel (sym told) (told_model r t due model),
     )
 
 -- a run so far: each call has its answer, by the law, and the desk stands behind the texts begun
 pub record RunsTo {N : Type 0} (s : Start) (calls : List ReadCall) (answers : List ReadAnswer) (d : Desk N) : Type 0 where
   pub count : length answers ≡ length calls
   pub lawful : Lawful s (history calls answers)
+  pub models : ModelsSaid (history calls answers)
   pub stands : StandsAt s (texts_begun (history calls answers)) d
 
 pub run_none : {N : Type 0} (s : Start) (d : Desk N) → StandsAt s [] d → RunsTo s [] [] d
-run_none s d at = record { count = refl; lawful = tt; stands = at }
+run_none s d at = record { count = refl; lawful = tt; models = tt; stands = at }
 
 history_more : (h : History) (calls : List ReadCall) (answers : List ReadAnswer) (c : ReadCall) (a : ReadAnswer) → length answers ≡ length calls
     → history_from h (calls ++ (c ∷ [])) (answers ++ (a ∷ [])) ≡ record { asked = asked c; said = said a } ∷ history_from h calls answers
@@ -93,24 +103,25 @@ history_more h [] (x ∷ xs) c a count = absurd (omega arith)
 history_more h (y ∷ ys) [] c a count = absurd (omega arith)
 history_more h (y ∷ ys) (x ∷ xs) c a count = history_more (record { asked = asked y; said = said x } ∷ h) ys xs c a (omega arith)
 
-pub run_more : {N : Type 0} (s : Start) (calls : List ReadCall) (answers : List ReadAnswer) (d e : Desk N) (c : ReadCall) (a : ReadAnswer) → RunsTo s calls answers d
-    → Due s (history calls answers) (asked c) (said a) → StandsAt s (texts_after (asked c) (said a) (texts_begun (history calls answers))) e
-    → RunsTo s (calls ++ (c ∷ [])) (answers ++ (a ∷ [])) e
-run_more s calls answers d e c a run due stands =
-    let more = history_more [] calls answers c a run.count in
-    let longer = length-append answers (a ∷ []) in
-    let asked_more = length-append calls (c ∷ []) in record {
-      count = longer ∙ ap (λ n. n + 1) run.count ∙ sym asked_more;
-      lawful = rw more (due, run.lawful);
-      stands = rw more stands;
-    }
+-- one call more is answered, which moves the desk
+module _ {N : Type 0} (s : Start) (calls : List ReadCall) (answers : List ReadAnswer) (d e : Desk N) (c : ReadCall) (a : ReadAnswer) (run : RunsTo s calls answers d)
+    (due : Due s (history calls answers) (asked c) (said a)) (stands : StandsAt s (texts_after (asked c) (said a) (texts_begun (history calls answers))) e) (model : SaysModel (said a)) where
+  run_more : RunsTo s (calls ++ (c ∷ [])) (answers ++ (a ∷ [])) e
+  run_more =
+      let more = history_more [] calls answers c a run.count in
+      let longer = length-append answers (a ∷ []) in
+      let asked_more = length-append calls (c ∷ []) in record {
+        count = longer ∙ ap (λ n. n + 1) run.count ∙ sym asked_more;
+        lawful = rw more (due, run.lawful);
+        models = rw more (model, run.models);
+        stands = rw more stands;
+      }
 
--- the call at a place of a list, behind those before it
-pub run_on : {N : Type 0} (s : Start) (calls : List ReadCall) (place : ℕ) (answers new : List ReadAnswer) (d e : Desk N) (c : ReadCall) (a : ReadAnswer) → RunsTo s (take place calls) answers d
-    → place < length calls → get_or calls place Next ≡ c → new ≡ answers ++ (a ∷ [])
-    → Due s (history (take place calls) answers) (asked c) (said a) → StandsAt s (texts_after (asked c) (said a) (texts_begun (history (take place calls) answers))) e
-    → RunsTo s (take (place + 1) calls) new e
-run_on s calls place answers new d e c a run within is grown due stands =
-    let more : take (place + 1) calls ≡ take place calls ++ (c ∷ []) = take_more calls place Next within ∙ ap (λ x. take place calls ++ (x ∷ [])) is in
-    let run_next = run_more s (take place calls) answers d e c a run due stands in
-    subst (λ cs. RunsTo s cs new e) (sym more) (subst (λ xs. RunsTo s (take place calls ++ (c ∷ [])) xs e) (sym grown) run_next)
+-- the same for the call at a place of a list
+pub run_on : {N : Type 0} (s : Start) (calls : List ReadCall) (other : ReadCall) (place : ℕ) (answers new : List ReadAnswer) (d e f : Desk N) (c : ReadCall) (a b : ReadAnswer)
+    → RunsTo s (take place calls) answers d → place < length calls → get_or calls place other ≡ c → new ≡ answers ++ (b ∷ []) → b ≡ a → f ≡ e
+    → Due s (history (take place calls) answers) (asked c) (said a) → StandsAt s (texts_after (asked c) (said a) (texts_begun (history (take place calls) answers))) e → SaysModel (said a)
+    → RunsTo s (take (place + 1) calls) new f
+run_on s calls other place answers new d e f c a b run within is grown answer desk due stands model =
+    let more : take (place + 1) calls ≡ take place calls ++ (c ∷ []) = take_more calls place other within ∙ ap (λ x. take place calls ++ (x ∷ [])) is in
+    rw (more, grown, answer, desk) (run_more s (take place calls) answers d e c a run due stands model)

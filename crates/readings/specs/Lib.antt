@@ -1,4 +1,4 @@
 pub mod Histories
 pub mod Calls
-pub mod Law
+pub mod Runs
 pub mod Desks

@@ -1,6 +1,5 @@
 //! What a run over texts answers.
 
-
 use parts::part::Part;
 use text::fault::TextFault;
 

@@ -2,7 +2,7 @@
 
 ghost use Rattle.std.specs.Prelude.{◌≡◌, IfOk, length};
 ghost use Rattle.readings.specs.Calls.{history};
-ghost use Rattle.readings.specs.Law.{start, Lawful, LawFixes, NamesKnown, TextsCounted};
+ghost use Rattle.readings.specs.Runs.{start, Lawful, LawFixes, ModelsSaid, NamesKnown, TextsCounted};
 
 use crate::answer::ReadAnswer;
 use crate::call::ReadCall;
@@ -31,6 +31,7 @@ pub fn read_all<'t, N: Notation + Copy + Drop>(
 ) -> Result<Readings<'t>, AllocError>
     ensures count { IfOk result (λ run. length run.answers.items ≡ length calls.now) }
     ensures law { IfOk result (λ run. Lawful (start N.which vocabulary) (history calls.now run.answers.items)) }
+    ensures models { IfOk result (λ run. ModelsSaid (history calls.now run.answers.items)) }
     ensures names { IfOk result (λ run. NamesKnown (start N.which vocabulary) (history calls.now run.answers.items) run.vocabulary.names) }
     ensures texts { IfOk result (λ run. TextsCounted (start N.which vocabulary) (history calls.now run.answers.items) run.vocabulary.texts) }
     ensures fixed { LawFixes (start N.which vocabulary) }

@@ -1,5 +1,5 @@
 use Rattle.std.proofs.Common.{take}
-use Rattle.readings.specs.Law.{start}
+use Rattle.readings.specs.Runs.{start}
 use Rattle.readings.proofs.Running.{RunsTo}
 use Rattle.readings.proofs.readings.read_all.Given as goal
 

@@ -1,5 +1,6 @@
 -- The law of a run over texts: what each call is answered, and what is known at the end. Assumes nothing.
-use Rattle.std.specs.Prelude.{◌≡◌, ℕ, ◌+◌, min, List, [], ◌∷◌, ◌++◌, length, Option}
+use Rattle.std.specs.Prelude.{◌≡◌, ℕ, ◌+◌, min, true, List, [], ◌∷◌, ◌++◌, length, Option}
+use Rattle.models.specs.Sheets.{is_model}
 use Rattle.names.specs.Numbering.{known_after}
 use Rattle.names.specs.declared.vocabulary.Vocabulary.{Vocabulary}
 use Rattle.grammar.specs.Notations.{Notation}
@@ -8,7 +9,7 @@ use Rattle.grammar.specs.Faults.{Cause}
 use Rattle.text.specs.Causes.{text_notice}
 use Rattle.text.specs.Law.{Reading, Told, NextDue, TextGives, names_of}
 use Rattle.text.specs.Law.Told.{declares, none_left, wrong_sheet, fault, no_model}
-use Rattle.readings.specs.Histories.{Asked, Said, Exchange, History, Begun, texts_begun}
+use Rattle.readings.specs.Histories.{Asked, Said, History, Begun, texts_begun}
 use Rattle.readings.specs.Histories.Asked.{begins, next}
 use Rattle.readings.specs.Histories.Said.{begun, no_text, tells}
 
@@ -67,6 +68,20 @@ NamesKnown s h ks = (ds : List Declaration) × AllGiven s (texts_begun h) ds × 
 -- each text that was begun is counted
 abbrev pub TextsCounted : Start → History → ℕ → Type 0
 TextsCounted s h n = n ≡ texts_with s (texts_begun h)
+
+-- the parts of each declaration told are a model
+abbrev pub SaysModel : Said → Type 0
+SaysModel begun = Unit {0}
+SaysModel no_text = Unit {0}
+SaysModel (tells (declares ps s n)) = is_model ps ≡ true
+SaysModel (tells none_left) = Unit {0}
+SaysModel (tells (wrong_sheet l)) = Unit {0}
+SaysModel (tells (fault f)) = Unit {0}
+SaysModel (tells no_model) = Unit {0}
+
+abbrev pub ModelsSaid : History → Type 0
+ModelsSaid [] = Unit {0}
+ModelsSaid (e ∷ h) = SaysModel e.said × ModelsSaid h
 
 -- the same is told: of a fault its number, layer and place, and how many texts and declarations came before
 abbrev pub SameTold : Told → Told → Type 0
