@@ -37,7 +37,7 @@ use Rattle.text.specs.Progress.{NamesGrow, Fails}
 use Rattle.text.proofs.Naming.{names_among_all, known_one_more, few_known, model_taken}
 
 -- two lists that begin one list are the same, where they are as long
-same_front : (ds es more less : List Declaration) → ds ++ more ≡ es ++ less → length ds ≡ length es → ds ≡ es
+pub same_front : (ds es more less : List Declaration) → ds ++ more ≡ es ++ less → length ds ≡ length es → ds ≡ es
 same_front ds es more less e k =
     sym (taken ds more) ∙ ap (take (length ds)) e ∙ ap (λ n. take n (es ++ less)) k ∙ taken es less
   where
