@@ -14,7 +14,7 @@ use Rattle.grammar.specs.Meaning.{tree_of}
 use Rattle.grammar.specs.Faults.{SignStands, Cause, number, Gives, GivesOne, AllFaultless, parts_of}
 use Rattle.text.specs.Between.{Between, GivesFirst, model_parts, Declares, Declared as Owed}
 use Rattle.text.specs.Contents.{Made}
-use Rattle.text.specs.Law.{Reading, TextGives, NamesKnown, names_of, PlaceTold}
+use Rattle.text.specs.Law.{Reading, TextGives, NamesKnown, names_of, PlaceTold, WithinLimits}
 use Rattle.text.specs.Progress.{ElementsAre}
 use Rattle.text.specs.Standing.{Standing}
 use Rattle.text.specs.declared.cursor.Cursor.{Cursor}
@@ -341,3 +341,12 @@ place_told ν bytes c new e f known texts given s d el m r one dl name place rea
     subst (λ n. SignStands ν bytes dl.place (all_signs ds ++ (element ∷ [])) (declared n)) (sym (name ∙ r.name))
     (subst (λ p. SignStands ν bytes p (all_signs ds ++ (element ∷ [])) (declared d.name)) (sym place)
     (subst (λ x. SignStands ν bytes el.place (all_signs x ++ (element ∷ [])) (declared d.name)) (sym first) r.stands)))
+
+-- how many declarations and parts there are
+pub limits_told : (ν : Notation) (ks : List (List ℕ)) (bytes : List ℕ) (ds : List Declaration) (d : Declaration) (el : Element) (c : Cursor) (e : Elements) (m : Made)
+    → Declares ν ks bytes ds d el c e m → (given : ℕ) → length ds ≡ given → (dl : Declared) → dl.length ≡ length (model_parts e.names d)
+    → (r : Reading) → given ≡ r.given → WithinLimits r (Ok (Some dl))
+limits_told ν ks bytes ds d el c e m r given count dl size reading is =
+    let few : length ds < 32 = r.few in
+    let parts : length (model_parts e.names d) ≤ 256 = r.parts in
+    (omega arith, omega arith)

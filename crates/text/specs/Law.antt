@@ -1,5 +1,5 @@
 -- What a reader of texts answers at each call, and what it leaves. Assumes nothing.
-use Rattle.std.specs.Prelude.{◌≡◌, ℕ, ◌+◌, ◌-◌, true, false, ◌==◌, List, [], ◌∷◌, ◌++◌, length, replicate, take, Some, None, Ok, Err, Option, Result}
+use Rattle.std.specs.Prelude.{◌≡◌, ℕ, ◌+◌, ◌-◌, ◌<◌, ◌≤◌, true, false, ◌==◌, List, [], ◌∷◌, ◌++◌, length, replicate, take, Some, None, Ok, Err, Option, Result}
 use Rattle.parts.specs.declared.part.Part.{Part}
 use Rattle.parts.specs.Parts.{blank}
 use Rattle.names.specs.Numbering.{known_after, symbol_in}
@@ -96,6 +96,11 @@ PlaceTold r (Ok (Some d)) =
     (ds more : List Declaration) (end : Option (Cause × ℕ))
     → TextGives r (ds ++ more) end → length ds ≡ r.given → SignStands r.notation r.text d.place (all_signs ds ++ (element ∷ [])) (declared d.name.now)
 PlaceTold r result = Unit {0}
+
+-- a declaration is told only where the text has given fewer than 32, and its model has at most 256 parts
+abbrev pub WithinLimits : Reading → Result (Option Declared) ReadRefusal → Type 0
+WithinLimits r (Ok (Some d)) = (r.given < 32) × (d.length ≤ 256)
+WithinLimits r result = Unit {0}
 
 -- the names known in a reading: those behind the declarations that it has given
 abbrev pub NamesKnown : Reading → List (List ℕ) → Type 0

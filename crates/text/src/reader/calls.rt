@@ -2,7 +2,7 @@
 
 ghost use Rattle.std.specs.Prelude.{◌≡◌, ◌+◌, ◌≤◌, length, min, IfOk, IfSome};
 ghost use Rattle.grammar.specs.Faults.{GivesOne};
-ghost use Rattle.text.specs.Law.{Reading, told, NextAsked, SheetAfter, reading_after, ModelTold, PlaceTold, NamesKnown};
+ghost use Rattle.text.specs.Law.{Reading, told, NextAsked, SheetAfter, reading_after, ModelTold, PlaceTold, WithinLimits, NamesKnown};
 
 use super::Reader;
 use crate::content::Content;
@@ -45,7 +45,7 @@ impl<'t, N: Notation + Drop> Reader<'t, N> {
         ensures goes_on { self.new ≡ reading_after (told result sheet.new) self.old }
         ensures model { ModelTold self.old (told result sheet.new) }
         ensures place { PlaceTold self.old result }
-        ensures length { IfOk result (λ next. IfSome next (λ declared. declared.length ≤ 256)) }
+        ensures limits { WithinLimits self.old result }
         ensures one { GivesOne N.which }
     {
         if sheet.len() != MOST_PARTS {

@@ -2,7 +2,7 @@ use Rattle.std.proofs.Common.{◌≡◌, ◌+◌, ◌<◌, length, subst, sym, a
 use Rattle.text.specs.Between.{model_parts}
 use Rattle.text.specs.Law.Told.{declares}
 use Rattle.text.specs.Standing.{Standing}
-use Rattle.text.proofs.Reading.{unfailed, stands_between, gave, ended, failed, due_declaration, due_none, due_fault, due_new_fault, seen_same, asked, model_told, model_is, few_before, seen_ended, seen_gave, at_some, at_none, at_fault, delivered_front, names_back, told_of, few_given, place_told, one_more, sheet_given}
+use Rattle.text.proofs.Reading.{unfailed, stands_between, gave, ended, failed, due_declaration, due_none, due_fault, due_new_fault, seen_same, asked, model_told, model_is, few_before, seen_ended, seen_gave, at_some, at_none, at_fault, delivered_front, names_back, told_of, few_given, place_told, limits_told, one_more, sheet_given}
 use Rattle.text.proofs.reader.Reader.next.Goals as goal
 
 pub returns-in-Some-clause-answer : goal.returns-in-Some-clause-answer
@@ -103,13 +103,13 @@ returns-in_ok-declared-in-Ok-clause-place g c =
     let given = c.in_ok-declared-in-Ok.ensures (model_parts c.declaration-read.new.elements.names d) r.made (model_is g.N.Notation.which _ _ _ d _ _ _ _ r (few_before i.known _ c.len-known.ensures.kept)) in
     place_told g.N.Notation.which i.text.now i.cursor _ i.elements _ i.known i.texts i.given s d _ _ r g.met.N.Notation.one c.in_ok-declared-in-Ok.declared given.2 given.3 _ c.self.view_is
 
-pub returns-in_ok-declared-in-Ok-clause-length : goal.returns-in_ok-declared-in-Ok-clause-length
-returns-in_ok-declared-in-Ok-clause-length g c =
+pub returns-in_ok-declared-in-Ok-clause-limits : goal.returns-in_ok-declared-in-Ok-clause-limits
+returns-in_ok-declared-in-Ok-clause-limits g c =
     let i = c.self.inside in
     let s = unfailed g.N.Notation.which i.text.now i.cursor i.elements i.known i.texts i.given i.fault c.self.invariant c.in-None.is in
     let (d, r) = at_some _ _ _ _ _ _ _ _ _ c.in-Some-next.is (c.in-Ok.ensures.declared _ _ _ (stands_between _ _ _ _ _ _ _ s) c.new-made.ensures) in
     let given = c.in_ok-declared-in-Ok.ensures (model_parts c.declaration-read.new.elements.names d) r.made (model_is g.N.Notation.which _ _ _ d _ _ _ _ r (few_before i.known _ c.len-known.ensures.kept)) in
-    omega (arith, given.0, r.parts)
+    limits_told _ _ _ _ d _ _ _ _ r i.given s.count c.in_ok-declared-in-Ok.declared given.0 c.args.self.now (ap (λ x. x.given) c.self.view_is)
 
 pub returns-in_ok-declared-in-Ok-clause-model : goal.returns-in_ok-declared-in-Ok-clause-model
 returns-in_ok-declared-in-Ok-clause-model g c =
