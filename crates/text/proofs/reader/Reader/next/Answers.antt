@@ -1,4 +1,4 @@
-use Rattle.std.proofs.Common.{◌≡◌, ◌+◌, ◌<◌, length, subst, sym, ap, ◌∙◌, refl, arith, take}
+use Rattle.std.proofs.Common.{◌+◌, subst, sym, ap, ◌∙◌, refl, arith, take}
 use Rattle.text.specs.Between.{model_parts}
 use Rattle.text.specs.Law.Told.{declares}
 use Rattle.text.specs.Standing.{Standing}
