@@ -1,0 +1,4 @@
+pub mod Findings
+pub mod Lines
+pub mod Tallies
+pub mod Reports
