@@ -2,3 +2,4 @@ pub mod Findings
 pub mod Lines
 pub mod Tallies
 pub mod Reports
+pub mod Compared

@@ -2,6 +2,7 @@
 
 #![tactic(auto)]
 
+pub mod compare;
 pub mod finding;
 pub mod line;
 pub mod report;
