@@ -21,6 +21,12 @@ fault_said path text f =
     let at = position_of (take f.place text) in
     path ++ (codes ":" ++ (decimal at.line ++ (codes ":" ++ (decimal at.column ++ (codes ": " ++ (cause_said f.cause ++ (codes "; " ++ text_fault_said (text_notice f))))))))
 
+-- what the system says of an error is not known
+abbrev pub not_compared_said : NotCompared → Option (List ℕ)
+not_compared_said (Refused r) = Some (fault_said r.source.path.now r.source.text.now r.fault)
+not_compared_said (Io error) = None
+
+-- memory that ran out, or what is not written
 abbrev pub IsIo : NotCompared → Type 0
 IsIo (Refused r) = ⊥
 IsIo (Io error) = Unit {0}

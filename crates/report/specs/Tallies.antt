@@ -1,5 +1,5 @@
 -- How many elements were found how. Assumes nothing.
-use Rattle.std.specs.Prelude.{ℕ, ◌+◌, ◌-◌, ◌^◌, ◌<◌, List, ◌++◌, codes, decimal, fold}
+use Rattle.std.specs.Prelude.{ℕ, Bool, ◌+◌, ◌-◌, ◌^◌, ◌<◌, ◌==◌, ◌&&◌, List, ◌++◌, codes, decimal, fold}
 use Rattle.report.specs.declared.finding.Finding.{Finding}
 use Rattle.report.specs.declared.finding.Finding.TheVariants.{Included, Breaks, Conflict, Alone}
 use Rattle.report.specs.declared.tally.Tally.{Tally}
@@ -17,6 +17,10 @@ no_tally = record { included = 0; broken = 0; conflicts = 0; alone = 0; missing 
 -- of findings in turn
 abbrev pub tally_of : List Finding → Tally
 tally_of fs = fold tally_with no_tally fs
+
+-- every element of the sent text is included
+abbrev pub all_included : Tally → Bool
+all_included t = (t.broken == 0) && ((t.conflicts == 0) && (t.alone == 0))
 
 -- its numbers can grow by one
 abbrev pub sums_fit : Tally → Type 0

@@ -1,7 +1,7 @@
 //! Two texts are read and compared.
 
 ghost use Rattle.std.specs.Prelude.{◌≡◌, Some};
-ghost use Rattle.report.specs.Compared.{TextsCompared, SourceRead, IsIo, fault_said};
+ghost use Rattle.report.specs.Compared.{TextsCompared, SourceRead, IsIo, fault_said, not_compared_said};
 
 use crate::report::write_report;
 use crate::side::Side;
@@ -9,7 +9,7 @@ use crate::tally::Tally;
 use listing::listing::{Listing, list};
 use names::vocabulary::Vocabulary;
 use parts::part::Part;
-use std::alloc::{AllocError, Global};
+use std::alloc::{AllocError, AllocFailed, Global};
 use std::{fmt, io};
 use store::windows::SHEET_PARTS;
 use text::dtd::Dtd;
@@ -53,6 +53,14 @@ impl From<AllocError> for NotCompared<'_> {
     }
 }
 
+impl<T: Drop> From<AllocFailed<T>> for NotCompared<'_> {
+    ghost from_gives = { λ _ e. IsIo e };
+
+    fn from(failed: AllocFailed<T>) -> Self {
+        NotCompared::from(AllocError::from(failed))
+    }
+}
+
 /// Path, line and column, the cause, and the refusal with its figures.
 impl fmt::Display for Refused<'_> {
     ghost output = { λ x. Some (fault_said x.source.path.now x.source.text.now x.fault) };
@@ -63,6 +71,17 @@ impl fmt::Display for Refused<'_> {
         let cause = self.fault.cause;
         let fault = self.fault;
         write!(f, "{path}:{line}:{column}: {cause}; {fault}")
+    }
+}
+
+impl fmt::Display for NotCompared<'_> {
+    ghost output = { λ e. not_compared_said e };
+
+    fn fmt<W: fmt::Write>(&self, f: &mut fmt::Formatter<W>) -> fmt::Result {
+        match self {
+            NotCompared::Refused(refused) => write!(f, "{refused}"),
+            NotCompared::Io(error) => write!(f, "{error}"),
+        }
     }
 }
 

@@ -1,7 +1,7 @@
 //! How many elements were found how.
 
 ghost use Rattle.std.specs.Prelude.{◌≡◌, Some};
-ghost use Rattle.report.specs.Tallies.{tally_with, sums_fit, compared_said, summary_said};
+ghost use Rattle.report.specs.Tallies.{tally_with, all_included, sums_fit, compared_said, summary_said};
 
 use crate::finding::Finding;
 use std::fmt;
@@ -40,6 +40,13 @@ impl Tally {
             Finding::Alone => tally.alone += 1,
         }
         tally
+    }
+
+    /// Whether every element of the sent text was found included.
+    pub fn is_all_included(&self) -> bool
+        ensures { result ≡ all_included self.now }
+    {
+        self.broken == 0 && self.conflicts == 0 && self.alone == 0
     }
 }
 

@@ -15,7 +15,7 @@ use Rattle.runner.specs.Scripts.{spaced, CallSaid, Said, Written, ScriptWritten}
 use Rattle.runner.specs.Turns.{EntriesSaid, EntriesWritten}
 use Rattle.runner.specs.declared.entry.Entry.{Entry}
 use Rattle.runner.specs.declared.failure.Failure.{Failure}
-use Rattle.runner.specs.declared.failure.Failure.TheVariants.{TooManyArguments, BadFile, BadInput, BadLine, Io}
+use Rattle.runner.specs.declared.failure.Failure.TheVariants.{BadFile, BadInput, BadLine, Io}
 
 pub appends_none : (a : Option (List ℕ)) → Appends a a []
 appends_none None = tt
@@ -85,7 +85,6 @@ numbered lines i n line (within, is) =
 pub script_ended : (lines : List (List ℕ)) (n place : ℕ) (line : List ℕ) (old mid new : List Entry) (failure : Failure)
     → n < length lines → place ≡ n → line ≡ get_or lines n line
     → Entered (take n lines) old mid → LineEntered (place + 1) line mid new (Err failure) → ScriptEntered lines old new (Err failure)
-script_ended lines n place line old mid new TooManyArguments within at is h k = absurd k
 script_ended lines n place line old mid new (BadFile path error) within at is h k = absurd k
 script_ended lines n place line old mid new (BadInput error) within at is h k = absurd k
 script_ended lines n place line old mid new (BadLine number reason) within at is h (count, bad, kept) =
@@ -110,7 +109,6 @@ lines_written lines es old new (fs, are, is) (said, h, given, out) =
 pub script_written : (lines : List (List ℕ)) (es : List Entry) (outcome : Result (Unit {0}) Failure) (old new : Option (List ℕ))
     → ScriptEntered lines [] es outcome → EntriesWritten es old new → ScriptWritten lines old new outcome
 script_written lines es (Ok u) old new entered given = lines_written lines es old new entered given
-script_written lines es (Err TooManyArguments) old new entered given = absurd entered
 script_written lines es (Err (BadFile path error)) old new entered given = absurd entered
 script_written lines es (Err (BadInput error)) old new entered given = absurd entered
 script_written lines es (Err (BadLine number reason)) old new (before, bad, entered) given = (before, bad, lines_written before es old new entered given)
@@ -118,7 +116,6 @@ script_written lines es (Err (Io error)) old new entered given = tt
 
 -- a failure that is of the system ends the script with nothing said
 pub script_failed : (lines : List (List ℕ)) (old new : Option (List ℕ)) (failure : Failure) → IsIo failure → ScriptWritten lines old new (Err failure)
-script_failed lines old new TooManyArguments is = absurd is
 script_failed lines old new (BadFile path error) is = absurd is
 script_failed lines old new (BadInput error) is = absurd is
 script_failed lines old new (BadLine number reason) is = absurd is

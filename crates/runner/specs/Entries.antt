@@ -6,7 +6,7 @@ use Rattle.script.specs.declared.error.LineError.{LineError}
 use Rattle.script.specs.declared.error.LineError.TheVariants.{Memory}
 use Rattle.runner.specs.declared.entry.Entry.{Entry}
 use Rattle.runner.specs.declared.failure.Failure.{Failure}
-use Rattle.runner.specs.declared.failure.Failure.TheVariants.{TooManyArguments, BadFile, BadInput, BadLine, Io}
+use Rattle.runner.specs.declared.failure.Failure.TheVariants.{BadFile, BadInput, BadLine, Io}
 
 -- the lines make these entries: one each where it makes a call
 abbrev pub EntriesAre : List (List ℕ) → List Entry → Type 0
@@ -26,7 +26,6 @@ IsBad line reason = (error : LineError) × (error ≢ Memory) × LineRead line (
 -- what a line makes is added, or it is bad and nothing is
 abbrev pub LineEntered : ℕ → List ℕ → List Entry → List Entry → Result (Unit {0}) Failure → Type 0
 LineEntered n line old new (Ok u) = Entered (line ∷ []) old new
-LineEntered n line old new (Err TooManyArguments) = ⊥
 LineEntered n line old new (Err (BadFile path error)) = ⊥
 LineEntered n line old new (Err (BadInput error)) = ⊥
 LineEntered n line old new (Err (BadLine number reason)) = (number ≡ n) × IsBad line (string_bytes reason) × (new ≡ old)
@@ -40,7 +39,6 @@ BadAt lines number reason before =
 -- what all the lines make is added, or what those before the first bad one do
 abbrev pub ScriptEntered : List (List ℕ) → List Entry → List Entry → Result (Unit {0}) Failure → Type 0
 ScriptEntered lines old new (Ok u) = Entered lines old new
-ScriptEntered lines old new (Err TooManyArguments) = ⊥
 ScriptEntered lines old new (Err (BadFile path error)) = ⊥
 ScriptEntered lines old new (Err (BadInput error)) = ⊥
 ScriptEntered lines old new (Err (BadLine number reason)) = (before : List (List ℕ)) × BadAt lines number (string_bytes reason) before × Entered before old new

@@ -19,7 +19,7 @@ use Rattle.answers.specs.Texts.{reply_said}
 use Rattle.answers.specs.declared.reply.Reply.{Reply}
 use Rattle.runner.specs.Entries.{BadAt}
 use Rattle.runner.specs.declared.failure.Failure.{Failure}
-use Rattle.runner.specs.declared.failure.Failure.TheVariants.{TooManyArguments, BadFile, BadInput, BadLine, Io}
+use Rattle.runner.specs.declared.failure.Failure.TheVariants.{BadFile, BadInput, BadLine, Io}
 
 -- the words of a line
 abbrev pub WordsAre : List ℕ → List (List ℕ) → Type 0
@@ -83,7 +83,6 @@ Written lines old new = (said : List ℕ) × (h : History) × Said [] lines said
 -- the lines are all answered, or those before the first bad one are, which the failure numbers from 1
 abbrev pub ScriptWritten : List (List ℕ) → Option (List ℕ) → Option (List ℕ) → Result (Unit {0}) Failure → Type 0
 ScriptWritten lines old new (Ok u) = Written lines old new
-ScriptWritten lines old new (Err TooManyArguments) = ⊥
 ScriptWritten lines old new (Err (BadFile path error)) = ⊥
 ScriptWritten lines old new (Err (BadInput error)) = ⊥
 ScriptWritten lines old new (Err (BadLine number reason)) = (before : List (List ℕ)) × BadAt lines number (string_bytes reason) before × Written before old new

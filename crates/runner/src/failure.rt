@@ -7,7 +7,6 @@ use std::{fmt, io};
 /// Why a run ended early. The reason of a bad line is text, since it outlives the script.
 #[derive(Drop)]
 pub enum Failure {
-    TooManyArguments,
     BadFile { path: String, error: io::Error },
     BadInput { error: io::Error },
     BadLine { number: usize, reason: String },
@@ -43,9 +42,6 @@ impl fmt::Display for Failure {
 
     fn fmt<W: fmt::Write>(&self, f: &mut fmt::Formatter<W>) -> fmt::Result {
         match self {
-            Failure::TooManyArguments => {
-                write!(f, "expected one argument at most, the file of a script")
-            }
             Failure::BadFile { path, error } => {
                 write!(f, "expected a script of UTF-8 text in {path}: {error}")
             }

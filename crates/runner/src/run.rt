@@ -1,23 +1,16 @@
-//! A run of a program that answers the calls of a script.
+//! A run over the script of a file, or of standard input.
 
 use crate::answering::answer_script;
 use crate::failure::Failure;
 use std::io::Write;
-use std::{env, fs, io};
+use std::{fs, io};
 
-/// Answers the script that the arguments name, or that of standard input, or prints the
-/// help. No clause says more, since none can know what arguments, files and standard input
-/// hold; what is written for a script is promised by `answer_script`.
-pub fn run(rt: &HostRuntime, usage: &str) -> Result<(), Failure> {
-    let mut args = env::args(rt)?;
-    let _program = args.next();
-    let path = args.next();
-    if args.next().is_some() {
-        return Err(Failure::TooManyArguments);
-    }
+/// Answers the script of the file at the path, or that of standard input. No clause says more,
+/// since none can know what files and standard input hold; what is written for a script is
+/// promised by `answer_script`.
+pub fn run(rt: &HostRuntime, path: Option<&str>) -> Result<(), Failure> {
     match path {
         None => answer_input(rt),
-        Some(path) if path.as_str() == "--help" => Ok(rt.print(usage)?),
         Some(path) => answer_file(rt, path),
     }
 }
@@ -29,9 +22,10 @@ fn answer_input(rt: &HostRuntime) -> Result<(), Failure> {
     answer(rt, text.as_str())
 }
 
-fn answer_file(rt: &HostRuntime, path: String) -> Result<(), Failure> {
-    let text = fs::read_to_string(rt, path.as_str()).map_err(|error| Failure::BadFile {
-        path,
+fn answer_file(rt: &HostRuntime, path: &str) -> Result<(), Failure> {
+    let named = String::from_str(rt.alloc(), path)?;
+    let text = fs::read_to_string(rt, path).map_err(|error| Failure::BadFile {
+        path: named,
         error,
     })?;
     answer(rt, text.as_str())
