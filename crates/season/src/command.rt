@@ -73,9 +73,9 @@ where every element of SENT is included, 1 where one is not or is not compared,
 
 /// What the program can be asked for: a script, or two files.
 pub fn command<'a>(heap: Global) -> Result<Command<'a>, AllocError> {
-    let file = Arg::new(heap, FILE)
-        .value_name("FILE")
-        .help("A script; where there is none, it is read from standard input");
+    let file = Arg::new(heap, FILE).value_name("FILE").help(
+        "A script; where there is none, it is read from standard input",
+    );
     let compare = Arg::new(heap, COMPARE)
         .long("compare")
         .action(ArgAction::Set)
