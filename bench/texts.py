@@ -7,7 +7,8 @@ The one is a chart parser over the productions of docs/TEXTS.md: it says how lon
 start of a text is that begins a text of declarations, and whether the whole text is one. The
 other is xmllint, where it is there: it says whether a file is a DTD. Both know nothing of
 limits, ANY and repeated declarations, so of the refusals 15 and 16 the chart says only that
-what stands up to their place begins such a text.
+what stands up to their place begins such a text. Rows with two texts, which are compared, are
+passed over.
 """
 
 import re
@@ -140,16 +141,15 @@ def takes(text, folder):
 
 
 def main():
-    texts = (CRATE / "stdin").read_text().splitlines()
-    answers = (CRATE / "stdout").read_text().splitlines()
-    if len(texts) != len(answers):
-        sys.exit(f"{len(texts)} texts and {len(answers)} answers")
+    rows = [row.split("\t") for row in (CRATE / "stdin").read_text().splitlines()]
+    texts = [row for row in rows if len(row) == 2]
+    told = (CRATE / "stdout").read_text().splitlines()
+    answers = dict(line.split("\t") for line in told if "\t" in line)
     differ, by_xmllint, apart = 0, 0, []
     with tempfile.TemporaryDirectory() as folder:
-        for row, said in zip(texts, answers):
-            name, text = row.split("\t", 1)
-            answer = said.split("\t", 1)[1]
-            text = unquote_to_bytes(text)
+        for name, written in texts:
+            answer = answers[name]
+            text = unquote_to_bytes(written)
             longest, whole = chart(text)
             if not agrees(answer, longest, whole):
                 differ += 1

@@ -1,2 +1,3 @@
 pub mod Reported
 pub mod Compared
+pub mod Counted

@@ -1,5 +1,5 @@
 -- How many elements were found how. Assumes nothing.
-use Rattle.std.specs.Prelude.{ℕ, Bool, ◌+◌, ◌-◌, ◌^◌, ◌<◌, ◌==◌, ◌&&◌, List, ◌++◌, codes, decimal, fold}
+use Rattle.std.specs.Prelude.{◌≡◌, ◌↔◌, All, ℕ, Bool, true, ◌+◌, ◌-◌, ◌^◌, ◌<◌, ◌==◌, ◌&&◌, List, ◌++◌, codes, decimal, fold}
 use Rattle.report.specs.declared.finding.Finding.{Finding}
 use Rattle.report.specs.declared.finding.Finding.TheVariants.{Included, Breaks, Conflict, Alone}
 use Rattle.report.specs.declared.tally.Tally.{Tally}
@@ -21,6 +21,10 @@ tally_of fs = fold tally_with no_tally fs
 -- every element of the sent text is included
 abbrev pub all_included : Tally → Bool
 all_included t = (t.broken == 0) && ((t.conflicts == 0) && (t.alone == 0))
+
+-- so it is exactly where each finding is that a model is included
+abbrev pub AllIncludedExactly : Type 0
+AllIncludedExactly = (fs : List Finding) → (all_included (tally_of fs) ≡ true) ↔ All (λ f. f ≡ Included) fs
 
 -- its numbers can grow by one
 abbrev pub sums_fit : Tally → Type 0

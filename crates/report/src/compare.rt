@@ -33,7 +33,9 @@ pub struct Refused<'t> {
 /// Why two texts are not compared.
 #[derive(Drop)]
 pub enum NotCompared<'t> {
+    /// one of them has a fault
     Refused(Refused<'t>),
+    /// memory ran out, or the answer could not be written
     Io(io::Error),
 }
 

@@ -3,8 +3,8 @@
 #![tactic(auto)]
 
 pub mod compare;
-pub mod finding;
-pub mod line;
-pub mod report;
-pub mod side;
+mod finding;
+mod line;
+mod report;
+mod side;
 pub mod tally;

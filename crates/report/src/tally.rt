@@ -1,7 +1,7 @@
 //! How many elements were found how.
 
 ghost use Rattle.std.specs.Prelude.{◌≡◌, Some};
-ghost use Rattle.report.specs.Tallies.{tally_with, all_included, sums_fit, compared_said, summary_said};
+ghost use Rattle.report.specs.Tallies.{tally_with, all_included, AllIncludedExactly, sums_fit, compared_said, summary_said};
 
 use crate::finding::Finding;
 use std::fmt;
@@ -10,10 +10,15 @@ use std::fmt;
 /// declares.
 #[derive(Clone, Copy, PartialEq, Eq)]
 pub struct Tally {
+    /// of which every message fits
     pub included: usize,
+    /// of which some message breaks a rule
     pub broken: usize,
+    /// whose expected model has a conflict
     pub conflicts: usize,
+    /// that the expected text does not declare
     pub alone: usize,
+    /// that the expected text alone declares
     pub missing: usize,
 }
 
@@ -28,7 +33,7 @@ impl Tally {
     };
 
     /// With one finding more.
-    pub fn with(self, finding: Finding) -> Tally
+    pub(crate) fn with(self, finding: Finding) -> Tally
         requires { sums_fit self }
         ensures { result ≡ tally_with self finding }
     {
@@ -44,7 +49,8 @@ impl Tally {
 
     /// Whether every element of the sent text was found included.
     pub fn is_all_included(&self) -> bool
-        ensures { result ≡ all_included self.now }
+        ensures value { result ≡ all_included self.now }
+        ensures exact { AllIncludedExactly }
     {
         self.broken == 0 && self.conflicts == 0 && self.alone == 0
     }
@@ -52,7 +58,7 @@ impl Tally {
 
 /// The last line of a report: the tally, of so many elements of the sent text.
 #[derive(Clone, Copy)]
-pub struct Summary<'a> {
+pub(crate) struct Summary<'a> {
     pub tally: Tally,
     pub total: usize,
     pub sent: &'a str,
