@@ -1,8 +1,11 @@
 //! Reads the texts of a table. A row is a name and a text, and it is written what that gives: how
 //! many declarations, or its first fault; or a name and two texts, and it is written what is
-//! told of their compare. A tab stands between, and %HH for a byte that cannot stand in a row.
+//! told of their compare; or a name and more texts, which are read in one run. A tab stands
+//! between, and %HH for a byte that cannot stand in a row.
 
 #![tactic(auto)]
+
+mod many;
 
 use anyhow::Context;
 use listing::listing::list;
@@ -23,6 +26,7 @@ fn main(rt: HostRuntime) -> anyhow::Result<()> {
         write!(out, "{name}\t")?;
         match texts.split_once('\t') {
             None => write_outcome(rt.alloc(), texts, &mut out)?,
+            Some((_, more)) if more.contains('\t') => write_many(rt.alloc(), texts, &mut out)?,
             Some((sent, expected)) => write_compared(rt.alloc(), sent, expected, &mut out)?,
         }
     }
@@ -72,4 +76,14 @@ fn write_compared<W: Write>(
         Err(NotCompared::Io(error)) => return Err(anyhow::Error::from(error)),
     }
     Ok(())
+}
+
+// Reads texts in one run, and writes what it answers.
+fn write_many<W: Write>(heap: Global, texts: &str, out: &mut W) -> anyhow::Result<()> {
+    let mut decoded_texts = Vec::new(heap);
+    for written in texts.split('\t') {
+        decoded_texts.push(decoded(heap, written)?)?;
+    }
+    writeln!(out)?;
+    many::write_run(heap, decoded_texts.as_slice(), out)
 }
