@@ -15,7 +15,8 @@ Runs a whole season of one message set from a script, or compares the models of 
 const COMPARE_HELP: &str = "\
 Compare the element declarations of two DTD files: does every message of each sent model fit";
 
-const SCRIPTS: &str = "\
+// Behind the options: scripts first, and then what is told of two files.
+const DETAILS: &str = "\
 The calls of a script are run on one message set, blank at first, and each call
 is printed with its answer. A script has one call to a line; empty lines and
 lines that begin with # are passed over.
@@ -68,7 +69,8 @@ Of two files a line tells for each element of SENT what is found: included, or
 the first rule of EXPECTED that some message of it breaks; a line each names the
 elements that one file alone declares; the last line counts. The status is 0
 where every element of SENT is included, 1 where one is not or is not compared,
-2 where a file is not read or is refused.
+2 where there is no answer: a file is not read or is refused, memory runs out, or
+the answer cannot be written.
 ";
 
 /// What the program can be asked for: a script, or two files.
@@ -85,7 +87,7 @@ pub fn command<'a>(heap: Global) -> Result<Command<'a>, AllocError> {
         .conflicts_with(FILE)?;
     Command::new(heap, "season")
         .about(ABOUT)
-        .after_help(SCRIPTS)
+        .after_help(DETAILS)
         .arg(file)?
         .arg(compare)
 }

@@ -23,6 +23,7 @@ fn main(rt: HostRuntime) -> anyhow::Result<ExitCode> {
     }
 }
 
+// Does what the command line asks for, and gives the status.
 fn answer(rt: &HostRuntime, matches: &ArgMatches<'_>) -> ExitCode {
     match matches.get_strs(command::COMPARE) {
         Some([sent, expected]) => pair::compare_files(rt, sent, expected),

@@ -18,7 +18,8 @@ const NO_ANSWER: u8 = 2;
 
 /// Compares the element declarations of two files, and writes what is found; the status is 0
 /// where every element of the sent one is included, 1 where one is not, 2 where a file is not
-/// read or is refused.
+/// read or is refused, memory runs out or the answer is not written. No clause says more, since
+/// none can know what files hold; what is written of two texts is promised by `compare_texts`.
 pub fn compare_files(rt: &HostRuntime, sent: &str, expected: &str) -> ExitCode {
     match (fs::read(rt, sent), fs::read(rt, expected)) {
         (Err(error), _) => unread(rt, sent, &error),
