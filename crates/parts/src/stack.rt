@@ -1,6 +1,6 @@
 //! A stack over a lent slice, for values of any type.
 
-ghost use Rattle.std.specs.Prelude.{◌≡◌, ◌≤◌, [], length, reverse};
+ghost use Rattle.std.specs.Prelude.{◌≡◌, ◌≤◌, [], length, reverse, drop};
 ghost use Rattle.parts.specs.Stacks.{Kept, front, depth, first_of, Pushed, Popped, PoppedTwo};
 
 use std::marker::Model;
@@ -14,11 +14,11 @@ pub struct Stack<'a, E> {
     len: usize,
 }
 
-// Clauses see what waits and all that the slice holds.
+// Clauses see what waits, and what the slice holds behind it.
 impl<'a, E> Model for Stack<'a, E> {
     ghost Value = { Kept E };
 
-    ghost view = { λ s. record { waiting = front s.items.now s.len; lent = s.items.now } };
+    ghost view = { λ s. record { waiting = front s.items.now s.len; spare = drop s.len s.items.now } };
 
     ghost invariant = { λ s. s.len ≤ length s.items.now };
 }
@@ -26,7 +26,7 @@ impl<'a, E> Model for Stack<'a, E> {
 impl<'a, E: Copy> Stack<'a, E> {
     /// An empty stack that can hold as many values as the slice.
     pub fn new(items: &'a mut [E]) -> Stack<'a, E>
-        ensures { result ≡ record { waiting = []; lent = items.old } }
+        ensures { result ≡ record { waiting = []; spare = items.old } }
     {
         Stack { items, len: 0 }
     }

@@ -1,7 +1,7 @@
 -- Groups within content: how many are open, and what is read at their ends. Assumes nothing.
 use Rattle.std.proofs.Common.{◌≡◌, ℕ, suc, ◌+◌, ◌-◌, ◌<◌, ◌≤◌, Bool, true, false, cond, List, [], ◌∷◌, ◌++◌, length, get_or, take, drop, Some, None, Option, Ok, Err, Result, sym, refl, ap, ◌∙◌, subst, arith}
 use Rattle.std.proofs.lemmas.List.{length-set, length-map}
-use Rattle.parts.specs.Stacks.{Kept, depth, Pushed}
+use Rattle.parts.specs.Stacks.{Kept, depth, lent, Pushed}
 use Rattle.grammar.specs.Notations.Notation.{dtd}
 use Rattle.grammar.specs.Faults.{Faultless}
 use Rattle.grammar.specs.Machine.{refused}
@@ -111,7 +111,7 @@ groups_open ds n o l =
 pub group_pushed : (l : Left) (o : List Left) (s t : Kept (Option Join)) (pushed : Result (Unit {0}) (Option Join)) → GroupsAre o s → length o < 16
     → Pushed s (left_join l) pushed t → GroupsAre (l ∷ o) t
 group_pushed l o s t (Ok u) g room push =
-    (push.0 ∙ ap (λ xs. left_join l ∷ xs) g.0, ap length push.1 ∙ length-set s.lent (depth s) (left_join l) ∙ g.1, omega arith)
+    (push.0 ∙ ap (λ xs. left_join l ∷ xs) g.0, ap length push.1 ∙ length-set (lent s) (depth s) (left_join l) ∙ g.1, omega arith)
 group_pushed l o s t (Err other) g room push =
     let size : depth s ≡ length o = ap length g.0 ∙ length-map o left_join in
     absurd (omega (arith, size, push.1, g.1))

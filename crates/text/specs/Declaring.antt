@@ -19,7 +19,7 @@ use Rattle.grammar.specs.Faults.{Gives, SignStands}
 use Rattle.grammar.specs.Machine.{Spot, spelled, Named, name_before, name_after, feed_at, spot_read, made as declaration_of}
 use Rattle.grammar.specs.Machine.Spot.{outside, opened, titled, kids, starless, grouped, full}
 use Rattle.grammar.specs.Machine.Named.{title, kid, mate}
-use Rattle.parts.specs.Stacks.{Kept}
+use Rattle.parts.specs.Stacks.{Kept, room}
 use Rattle.text.specs.Contents.{Made, made_of, MakesMore, join_part, mark_parts}
 use Rattle.text.specs.Cursors.{rest_of, Stayed, WordRead, MarkRead}
 use Rattle.text.specs.Fronts.{Past, is_mark}
@@ -156,7 +156,7 @@ left_join (Some (a, j)) = Some (join_of j)
 
 -- the open groups, the innermost first, for all of which there is room
 abbrev pub GroupsAre : List Left → Kept (Option Join) → Type 0
-GroupsAre ls s = (s.waiting ≡ map left_join ls) × (length s.lent ≡ 16) × (length ls ≤ 16)
+GroupsAre ls s = (s.waiting ≡ map left_join ls) × (room s ≡ 16) × (length ls ≤ 16)
 
 -- a suffix has been read and its parts made, or none stands there
 abbrev pub MarkMade : Cursor → Made → Cursor → Made → Type 0
