@@ -95,7 +95,7 @@ both_least s l r u mix false false m n lacks_l lacks_r h k = record {
 }
 
 -- the other side never has it
-side_fewest : (s : ℕ) (l r u : Tree) → Adds s l r u → (o : Option Figure) → Formed r → (Carries r s → ⊥) → FewestIs s l o → FewestIs s u o
+pub side_fewest : (s : ℕ) (l r u : Tree) → Adds s l r u → (o : Option Figure) → Formed r → (Carries r s → ⊥) → FewestIs s l o → FewestIs s u o
 side_fewest s l r u mix None formed none h = λ (m, fit, o).
     let (a, b, f, g, e) = mix.parts m fit in
     omega (arith, counted_some s m o, never s l h a f, never s r none b g)

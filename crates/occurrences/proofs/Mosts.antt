@@ -16,7 +16,7 @@ use Rattle.occurrences.proofs.Added.{Found, Adds, mixed, again}
 pub symbol_most : (s x n : ℕ) → occurrences s (x ∷ []) ≡ n → IsMost s (symbol x) n
 symbol_most s x n e = ((x ∷ [], refl, e), λ m f. omega (arith, ap (occurrences s) f ∙ e))
 
-choice_most : (s : ℕ) (l r : Tree) (a b : ℕ) → IsMost s l a → IsMost s r b → IsMost s (choice l r) (max a b)
+pub choice_most : (s : ℕ) (l r : Tree) (a b : ℕ) → IsMost s l a → IsMost s r b → IsMost s (choice l r) (max a b)
 choice_most s l r a b ((m, f, d), h) ((n, g, e), k) = (
   elim (cases_lt a b) [ inl lt ↦ (n, inr g, omega arith) | inr ge ↦ (m, inl f, omega arith) ],
   λ x fit. ⊎_elim (λ p. omega (arith, h x p)) (λ q. omega (arith, k x q)) fit,

@@ -186,7 +186,12 @@ pub fn occurrences_of(model: &Model<'_>, symbol: u32) -> Occurring
     ensures { OccurringIs symbol (tree_of model.now) result }
 {
     let occurs = Occurs { symbol };
-    // one array for each summary (docs/DECISIONS.md, "Lent slices")
-    let mut work = [occurs.empty(); MOST_PARTS];
+    // one array for each summary, of bytes that are 0 (docs/DECISIONS.md, "Lent slices")
+    let scratch = Occurring {
+        fewest: None,
+        most: Most::Ends(Figure::Exactly(0)),
+        every: (false, false),
+    };
+    let mut work = [scratch; MOST_PARTS];
     work_up(&occurs, model, &mut work)
 }

@@ -10,7 +10,7 @@ use Rattle.models.specs.Trees.Tree.{empty, symbol, choice, sequence, interleave,
 use Rattle.models.proofs.Inhabited.{some_message, between_low}
 use Rattle.models.proofs.Occurrences.{occurs_left, occurs_right, Occurs-Shuffle, Occurs-Joined, repeated, joined_repeated, repeated_occurs}
 use Rattle.models.proofs.Sides.{Sides, sequence_sides, interleave_sides}
-use Rattle.parts.proofs.SymbolSets.{in_left, in_right, in_either, in_one, power_bit}
+use Rattle.parts.proofs.SymbolSets.{in_left, in_right, in_either, in_one, in_none, power_bit}
 
 pub carries_empty : (s : ℕ) → Carries empty s → ⊥
 carries_empty s (m, e, h) = subst (Occurs s) e h
@@ -89,6 +89,9 @@ module _ (a b : ℕ) (l r : Tree) (f : SymbolsAre l a) (g : SymbolsAre r b) wher
   pub interleave_symbols : Formed l → Formed r → SymbolsAre (interleave l r) (bit_or a b)
   interleave_symbols = sides_symbols interleave_sides
 
+pub empty_symbols : SymbolsAre empty 0
+empty_symbols s = ((λ h. absurd (in_none s h)), (λ h. absurd (carries_empty s h)))
+
 pub symbol_symbols : (x : ℕ) → x ≤ 63 → SymbolsAre (symbol x) (2 ^ x)
 symbol_symbols x low s = (
   (λ h. subst (Carries (symbol x)) (power_bit x s h.1) (symbol_carries x)),
@@ -140,9 +143,15 @@ standing_are t set f g s = ((λ h. carried_stands t s ((g s).0 h)), (λ h. (g s)
 
 -- whether a symbol is carried, from whether the parts taken carry it
 module _ (l r : Tree) (s : ℕ) (v w : Bool) (f : Decides v (Carries l s)) (g : Decides w (Carries r s)) where
+  pub choice_carried : Decides (v || w) (Carries (choice l r) s)
+  choice_carried = Decides-like (v || w) (choice_carries l r s) (carries_choice l r s) (Decides-or v w f g)
+
   pub sides_carried : {put : Message → Message → Message → Type 0} {form : Tree → Tree → Tree} → Sides put form → Formed l → Formed r → Decides (v || w) (Carries (form l r) s)
   sides_carried sides x y = Decides-like (v || w) (sides_carry sides l r s x y) (carries_sides sides l r s) (Decides-or v w f g)
 
 module _ (t : Tree) (s : ℕ) (v : Bool) (f : Decides v (Carries t s)) where
   pub count_carried : (low high : ℕ) → Bounds low high → Decides v (Carries (count t low high) s)
   count_carried low high b = Decides-like v (count_carries t low high s b) (carries_count t low high s) f
+
+  pub nonempty_carried : Decides v (Carries (nonempty t) s)
+  nonempty_carried = Decides-like v (nonempty_carries t s) (carries_nonempty t s) f

@@ -3,7 +3,7 @@ use Rattle.std.proofs.Common.{◌≡◌, ℕ, zero, suc, ◌-◌, ◌≤◌, Boo
 use Rattle.std.proofs.lemmas.Bool.Decides.{Decides-and, Decides-or, Decides-not, Decides-eqb, Decides-like}
 use Rattle.models.specs.Messages.{Message, After}
 use Rattle.models.specs.Trees.{Tree, Fits, Carries, Between, Bounds, Formed}
-use Rattle.models.specs.Trees.Tree.{sequence, interleave, count}
+use Rattle.models.specs.Trees.Tree.{choice, sequence, interleave, count, nonempty}
 use Rattle.models.proofs.Inhabited.{some_message, between_low}
 use Rattle.models.proofs.Occurrences.{Shuffle-append_back, repeated, joined_repeated, repeated_occurs}
 use Rattle.models.proofs.Ordered.{after_left, after_right, after_across, After-append, After-Shuffle, After-Joined}
@@ -24,6 +24,13 @@ module _ (a b : ℕ) where
       → Carries l b × Carries r a → Reverses (form l r) a b
   across_reverses sides l r ((m, p, f), (n, q, g)) =
       (m ++ n, sides.made l r (m ++ n) (m, n, sides.mixes.appended m n, p, q), after_across a b m n f g)
+
+  pub choice_reverses : (l r : Tree) (v w : Bool) → Decides v (Reverses l a b) → Decides w (Reverses r a b) → Decides (v || w) (Reverses (choice l r) a b)
+  choice_reverses l r v w f g =
+      Decides-like (v || w)
+      (⊎_elim (λ (m, p, h). (m, inl p, h)) (λ (m, p, h). (m, inr p, h)))
+      (λ (m, p, h). ⊎_elim (λ z. inl (m, z, h)) (λ z. inr (m, z, h)) p)
+      (Decides-or v w f g)
 
   module _ (l r : Tree) (u : Formed l) (s : Formed r) (v w : Bool) (f : Decides v (Reverses l a b)) (g : Decides w (Reverses r a b)) where
     sequence_apart : Reverses (sequence l r) a b → (Reverses l a b ⊎ Reverses r a b) ⊎ (Carries l b × Carries r a)
@@ -92,3 +99,7 @@ module _ (a b : ℕ) where
         (⊎_elim repeated_reverses pieces_reverse)
         count_apart
         (Decides-or v ((x && y) && not (eqb high 1)) f (Decides-and (x && y) (not (eqb high 1)) (Decides-and x y d e) (Decides-not (eqb high 1) (Decides-eqb high 1))))
+
+  pub nonempty_reverses : (t : Tree) (v : Bool) → Decides v (Reverses t a b) → Decides v (Reverses (nonempty t) a b)
+  nonempty_reverses t v f =
+      Decides-like v (λ (m, p, h). (m, (p, λ e. subst (After a b) e h), h)) (λ (m, p, h). (m, p.0, h)) f

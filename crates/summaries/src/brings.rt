@@ -100,7 +100,11 @@ pub fn brings_of(model: &Model<'_>, first: SymbolSet, second: SymbolSet) -> Brou
 {
     let second = Every { set: second };
     let brings = Brings { first, second };
-    // one array for each summary (docs/DECISIONS.md, "Lent slices")
-    let mut work = [brings.empty(); MOST_PARTS];
+    // one array for each summary, of bytes that are 0 (docs/DECISIONS.md, "Lent slices")
+    let scratch = Brought {
+        brings: false,
+        every: (false, false),
+    };
+    let mut work = [scratch; MOST_PARTS];
     work_up(&brings, model, &mut work)
 }

@@ -80,8 +80,8 @@ pub(crate) fn both_or_other(left: bool, every_left: bool, right: bool, every_rig
 pub fn every_of(model: &Model<'_>, set: SymbolSet) -> (bool, bool)
     ensures { EveryHas set.bits (tree_of model.now) result }
 {
-    // one array for each summary (docs/DECISIONS.md, "Lent slices")
     let every = Every { set };
-    let mut work = [every.empty(); MOST_PARTS];
+    // one array for each summary, of bytes that are 0 (docs/DECISIONS.md, "Lent slices")
+    let mut work = [(false, false); MOST_PARTS];
     work_up(&every, model, &mut work)
 }
